@@ -1,0 +1,36 @@
+-- Nodes and links as code holds them: a column for each field, read by index.
+use Prim.Native.Nat.{ℕ, zero, suc, _≤_}
+use mathlib.Core.List.{List, [], _∷_}
+use lib.ListN.{length, getD}
+use lib.IntN.{ℤ, pos, _-ℤ_, natAbs}
+use Rattle.matching.specs.Definitions.Nodes.{Node}
+use Rattle.matching.specs.Definitions.Links.{Link}
+
+-- f at the n places from k on.
+unfoldable pub tabulate : {X : Type 0} → (ℕ → X) → ℕ → ℕ → List X
+tabulate f k zero = []
+tabulate f k (suc n) = f k ∷ tabulate f (suc k) n
+
+-- The nodes that columns of numbers, positions and capacities denote.
+abbrev pub nodeAt : List ℕ → List ℤ → List ℤ → List ℕ → ℕ → Node
+nodeAt ns xs ys ks i = record { number = getD ns i 0; x = getD xs i (pos 0); y = getD ys i (pos 0); capacity = getD ks i 0 }
+
+unfoldable pub nodesOf : List ℕ → List ℤ → List ℤ → List ℕ → List Node
+unfolding tabulate
+nodesOf ns xs ys ks = tabulate (nodeAt ns xs ys ks) 0 (length ns)
+
+-- The first n links that columns of A numbers, B numbers, distances and amounts denote.
+abbrev pub linkAt : List ℕ → List ℕ → List ℕ → List ℕ → ℕ → Link
+linkAt la lb ld lm i = record { a = getD la i 0; b = getD lb i 0; distance = getD ld i 0; amount = getD lm i 0 }
+
+unfoldable pub linksOf : List ℕ → List ℕ → List ℕ → List ℕ → ℕ → List Link
+unfolding tabulate
+linksOf la lb ld lm n = tabulate (linkAt la lb ld lm) 0 n
+
+-- Where code works: a position within 24,576 across and 16,384 up.
+abbrev pub Inside : ℤ → ℤ → Type 0
+Inside x y = (natAbs x ≤ 24576) × (natAbs y ≤ 16384)
+
+-- The differences of two such positions: their squared distance fits four bytes.
+abbrev pub Reach : ℤ → ℤ → ℤ → ℤ → Type 0
+Reach x y u v = (natAbs (x -ℤ u) ≤ 49152) × (natAbs (y -ℤ v) ≤ 32768)

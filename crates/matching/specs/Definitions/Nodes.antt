@@ -1,0 +1,48 @@
+-- Masters and their nodes (document 01, 'Rows and buffers', without the bytes).
+use Prim.Native.Nat.{ℕ}
+use mathlib.Core.Path.{_≡_}
+use mathlib.Core.Bool.{cond}
+use mathlib.Core.List.{List, [], _∷_, map}
+use lib.IntN.{ℤ}
+use lib.Dec.{eqb}
+use Rattle.matching.specs.Definitions.Lists.{All}
+
+-- The two masters: A is the light, B the bold.
+pub data Master : Type 0 where
+  masterA : Master
+  masterB : Master
+
+-- A thing for each master.
+abbrev pub each : {X : Type 0} → X → X → Master → X
+each x y masterA = x
+each x y masterB = y
+
+pub record Node : Type 0 where
+  pub number : ℕ
+  pub x : ℤ
+  pub y : ℤ
+  pub capacity : ℕ
+
+abbrev pub numbers : List Node → List ℕ
+numbers = map (λ (v : Node). v .number)
+
+-- No node of the list has the number n.
+abbrev pub Absent : ℕ → List Node → Type 0
+Absent n A = All (λ w. n ≡ w .number → ⊥) A
+
+-- No two nodes of a master have the same number.
+abbrev pub Unique : List Node → Type 0
+Unique [] = Unit {0}
+Unique (v ∷ A) = Absent (v .number) A × Unique A
+
+-- The capacity of the node with number n, 0 where there is none.
+unfoldable pub capacityOf : List Node → ℕ → ℕ
+capacityOf [] n = 0
+capacityOf (v ∷ A) n = cond (eqb (v .number) n) (v .capacity) (capacityOf A n)
+
+-- The same nodes in another order.
+pub data Reordered : List Node → List Node → Type 0 where
+  same : {A : List Node} → Reordered A A
+  swap : (v w : Node) {A : List Node} → Reordered (v ∷ w ∷ A) (w ∷ v ∷ A)
+  skip : (v : Node) {A C : List Node} → Reordered A C → Reordered (v ∷ A) (v ∷ C)
+  then : {A C D : List Node} → Reordered A C → Reordered C D → Reordered A D

@@ -1,0 +1,74 @@
+-- The order of the rows does not matter: the same nodes in another order have the same join.
+use Prim.Native.Nat.{ℕ, suc, _+_}
+use mathlib.Core.Path.{_≡_, refl, sym, _∙_, ap, ap₂, fun-ext}
+use mathlib.Core.Bool.{cond}
+use mathlib.Core.List.{List, [], _∷_, map}
+use native.Mathlib.Decide.{ℕ-discrete}
+use lib.Dec.{eqb}
+use lib.ListN.{length}
+use borrow.Author.Tests.{eq-eqb, ne-eqb}
+use Rattle.matching.specs.Definitions.Lists.{All}
+use Rattle.matching.specs.Definitions.Nodes.{each, Node, Unique, capacityOf, Reordered, same, swap, skip, then}
+use Rattle.matching.specs.Definitions.Pairs.{pair, pairs}
+use Rattle.matching.specs.Definitions.Join.{Left, capacities, lesser, consider, earliest, steps, whole, join}
+use Rattle.matching.specs.Laws.Earliest.{consider-comm, better, earliest-append, earliest-swap}
+use Rattle.matching.specs.Laws.Steps.{steps-same}
+
+reordered-length : {A C : List Node} → Reordered A C → length A ≡ length C
+reordered-length same = refl
+reordered-length (swap v w) = refl
+reordered-length (skip v r) = ap suc (reordered-length r)
+reordered-length (then r s) = reordered-length r ∙ reordered-length s
+
+reordered-all : (P : Node → Type 0) {A C : List Node} → Reordered A C → All P A → All P C
+reordered-all P same h = h
+reordered-all P (swap v w) h = (h .1 .0, (h .0, h .1 .1))
+reordered-all P (skip v r) h = (h .0, reordered-all P r (h .1))
+reordered-all P (then r s) h = reordered-all P s (reordered-all P r h)
+
+pub reordered-unique : {A C : List Node} → Reordered A C → Unique A → Unique C
+reordered-unique same u = u
+reordered-unique (swap v w) u = (((λ e. u .0 .0 (sym e)), u .1 .0), (u .0 .1, u .1 .1))
+reordered-unique (skip v r) u = (reordered-all (λ w. v .number ≡ w .number → ⊥) r (u .0), reordered-unique r (u .1))
+reordered-unique (then r s) u = reordered-unique s (reordered-unique r u)
+
+reordered-capacity : {A C : List Node} → Reordered A C → Unique A → (n : ℕ) → capacityOf A n ≡ capacityOf C n
+unfolding capacityOf
+reordered-capacity same u n = refl
+reordered-capacity (swap v w {A = A}) u n = go (ℕ-discrete (v .number) n) (ℕ-discrete (w .number) n)
+  where
+    go : Dec (v .number ≡ n) → Dec (w .number ≡ n) → capacityOf (v ∷ w ∷ A) n ≡ capacityOf (w ∷ v ∷ A) n
+    go (yes e) (yes g) = absurd (u .0 .0 (e ∙ sym g))
+    go (yes e) (no g) = rw (eq-eqb (v .number) n e, ne-eqb (w .number) n g)
+    go (no e) g = rw (ne-eqb (v .number) n e)
+reordered-capacity (skip v r) u n = ap (λ (c : ℕ). cond (eqb (v .number) n) (v .capacity) c) (reordered-capacity r (u .1) n)
+reordered-capacity (then r s) u n = reordered-capacity r u n ∙ reordered-capacity s (reordered-unique r u) n
+
+-- The search for the earliest pair goes through A's rows,
+module _ (c : Left) where
+  rows-a : {A C : List Node} (B : List Node) → Reordered A C → earliest (pairs A B) c ≡ earliest (pairs C B) c
+  unfolding pairs
+  rows-a B same = refl
+  rows-a B (swap v w {A = A}) = earliest-swap (map (pair v) B) (map (pair w) B) (pairs A B) c
+  rows-a B (skip v {A = A} {C = C} r) =
+      earliest-append (map (pair v) B) (pairs A B) c ∙ ap (better (earliest (map (pair v) B) c)) (rows-a B r) ∙ sym (earliest-append (map (pair v) B) (pairs C B) c)
+  rows-a B (then r s) = rows-a B r ∙ rows-a B s
+
+  -- and in each through B's.
+  row-b : (v : Node) {B C : List Node} → Reordered B C → earliest (map (pair v) B) c ≡ earliest (map (pair v) C) c
+  unfolding earliest
+  row-b v same = refl
+  row-b v (swap u w {A = B}) = consider-comm (pair v u) (lesser c (pair v u)) (pair v w) (lesser c (pair v w)) (earliest (map (pair v) B) c)
+  row-b v (skip u r) = ap (consider (pair v u) (lesser c (pair v u))) (row-b v r)
+  row-b v (then r s) = row-b v r ∙ row-b v s
+
+  rows-b : (A : List Node) {B C : List Node} → Reordered B C → earliest (pairs A B) c ≡ earliest (pairs A C) c
+  unfolding pairs
+  rows-b [] r = refl
+  rows-b (v ∷ A) {B} {C} r = earliest-append (map (pair v) B) (pairs A B) c ∙ ap₂ better (row-b v r) (rows-b A r) ∙ sym (earliest-append (map (pair v) C) (pairs A C) c)
+
+pub join-reordered : {A C B D : List Node} → Reordered A C → Reordered B D → Unique A → Unique B → join A B ≡ join C D
+unfolding join capacities
+join-reordered {A} {C} {B} {D} r s u w =
+    steps-same whole (pairs A B) (pairs C D) (λ c. rows-a c B r ∙ rows-b c C s) (length A + length B) (capacities A B)
+    ∙ (λ i. steps whole (reordered-length r i + reordered-length s i) (pairs C D) (each (fun-ext (reordered-capacity r u) i) (fun-ext (reordered-capacity s w) i)))
