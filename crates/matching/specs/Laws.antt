@@ -11,6 +11,7 @@ pub mod Sums
 pub mod Steps
 pub mod Count
 pub mod Common
+pub mod Split
 pub mod Without
 pub mod Amounts
 pub mod Columns

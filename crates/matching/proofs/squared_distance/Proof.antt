@@ -1,5 +1,5 @@
 -- `matching::squared_distance` meets its contract: within reach the sum of the two squares fits four bytes. Assumes nothing.
-use Prim.Native.Nat.{ℕ, _+_, _≤_, _<_}
+use Prim.Native.Nat.{_+_, _≤_, _<_}
 use mathlib.Core.Path.{_≡_, _∙_, ap, ap₂, subst⁻¹}
 use native.Mathlib.Omega.{arith}
 use lib.IntN.{ℤ, _-ℤ_, natAbs}

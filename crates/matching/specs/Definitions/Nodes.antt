@@ -1,7 +1,7 @@
 -- Masters and their nodes (document 01, 'Rows and buffers', without the bytes).
-use Prim.Native.Nat.{ℕ}
+use Prim.Native.Nat.{ℕ, suc}
 use mathlib.Core.Path.{_≡_}
-use mathlib.Core.Bool.{cond}
+use mathlib.Core.Bool.{Bool, false, cond, _||_}
 use mathlib.Core.List.{List, [], _∷_, map}
 use lib.IntN.{ℤ}
 use lib.Dec.{eqb}
@@ -34,6 +34,15 @@ Absent n A = All (λ w. n ≡ w .number → ⊥) A
 abbrev pub Unique : List Node → Type 0
 Unique [] = Unit {0}
 Unique (v ∷ A) = Absent (v .number) A × Unique A
+
+-- Whether a node of the list has the number n, and the place of the first that has it.
+unfoldable pub has : ℕ → List Node → Bool
+has n [] = false
+has n (v ∷ A) = eqb (v .number) n || has n A
+
+unfoldable pub place : ℕ → List Node → ℕ
+place n [] = 0
+place n (v ∷ A) = cond (eqb (v .number) n) 0 (suc (place n A))
 
 -- The capacity of the node with number n, 0 where there is none.
 unfoldable pub capacityOf : List Node → ℕ → ℕ

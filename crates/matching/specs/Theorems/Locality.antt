@@ -1,22 +1,21 @@
 -- Locality: an edit of one node changes no link ahead of the first, old or new, that names the node.
 use Prim.Native.Nat.{ℕ, zero, suc, _≤_}
-use mathlib.Core.Path.{_≡_, refl, sym, _∙_, ap, subst}
-use mathlib.Core.List.{List, [], _∷_, _++_, append-nil, List·Memᴰ, List·Memᴰ·not-nil, List·Memᴰ·cases-cons}
-use mathlib.Core.Logic.{_⊎_, inl, inr}
+use mathlib.Core.Bool.{true}
+use mathlib.Core.Path.{_≡_, refl, _∙_, ap, subst}
+use mathlib.Core.List.{List, [], _∷_, _++_, append-nil}
 use native.Mathlib.Decide.{ℕ-discrete}
 use lib.IntN.{ℤ}
 use lib.ListN.{length, take}
-use borrow.Author.Tests.{eq-eqb, ne-eqb}
 use Rattle.matching.specs.Definitions.Lists.{All}
-use Rattle.matching.specs.Definitions.Nodes.{Master, Node, numbers, Absent, Unique}
+use Rattle.matching.specs.Definitions.Nodes.{Master, Node, Absent, Unique, has}
 use Rattle.matching.specs.Definitions.Pairs.{Pair, numberIn}
 use Rattle.matching.specs.Definitions.Links.{Link, pairOf, common}
 use Rattle.matching.specs.Definitions.Join.{Left, lesser, taken}
 use Rattle.matching.specs.Definitions.Edits.{arrive, depart, amend, moved, resized}
-use Rattle.matching.specs.Laws.Lists.{all-append-right}
 use Rattle.matching.specs.Laws.Left.{taken-zero}
 use Rattle.matching.specs.Laws.Sorting.{sort, keep, along}
 use Rattle.matching.specs.Laws.Common.{common-most}
+use Rattle.matching.specs.Laws.Split.{Split, split, absent-of-unique}
 use Rattle.matching.specs.Laws.Without.{joinFrom, pairsFrom, capacitiesFrom, sorted-from, void, void-named, void-other, void-taken, without}
 
 -- The link names the master's node n.
@@ -92,42 +91,6 @@ module _ (s : Master) (z : ℕ) where
       go (yes h) ih = rw (void-named s z c p h, taken-zero (void s z c) p) (hit (lesser c p) h ih)
       go (no h) ih = rw (void-other s z c p h) (miss (lesser c p) h ih)
 
--- The place of a number among the nodes.
-record Split (n : ℕ) (A : List Node) : Type 0 where
-  A₁ : List Node
-  v : Node
-  A₂ : List Node
-  is-list : A ≡ A₁ ++ v ∷ A₂
-  is-number : v .number ≡ n
-  without-it : depart n A ≡ A₁ ++ A₂
-  amended : (f : Node → Node) → amend f n A ≡ A₁ ++ f v ∷ A₂
-
-split : (n : ℕ) (A : List Node) → List·Memᴰ n (numbers A) → Split n A
-unfolding depart amend
-split n [] i = absurd (List·Memᴰ·not-nil i)
-split n (v ∷ A) i = go (ℕ-discrete (v .number) n) (split n A)
-  where
-    later : (v .number ≡ n → ⊥) → (n ≡ v .number) ⊎ List·Memᴰ n (numbers A) → List·Memᴰ n (numbers A)
-    later h (inl e) = absurd (h (sym e))
-    later h (inr j) = j
-
-    go : Dec (v .number ≡ n) → (List·Memᴰ n (numbers A) → Split n A) → Split n (v ∷ A)
-    go (yes e) r = record { A₁ = []; v = v; A₂ = A; is-list = refl; is-number = e; without-it = rw (eq-eqb (v .number) n e); amended = λ f. rw (eq-eqb (v .number) n e) }
-    go (no h) r = let t : Split n A = r (later h (List·Memᴰ·cases-cons i)) in
-        record {
-          A₁ = v ∷ t .A₁;
-          v = t .v;
-          A₂ = t .A₂;
-          is-list = ap (λ (l : List Node). v ∷ l) (t .is-list);
-          is-number = t .is-number;
-          without-it = rw (ne-eqb (v .number) n h) (ap (λ (l : List Node). v ∷ l) (t .without-it));
-          amended = λ f. rw (ne-eqb (v .number) n h) (ap (λ (l : List Node). v ∷ l) (t .amended f));
-        }
-
-absent-of-unique : (A₁ : List Node) (v : Node) (A₂ : List Node) → Unique (A₁ ++ v ∷ A₂) → Absent (v .number) (A₁ ++ A₂)
-absent-of-unique [] v A₂ u = u .0
-absent-of-unique (w ∷ A₁) v A₂ u = ((λ e. all-append-right (λ x. w .number ≡ x .number → ⊥) A₁ (v ∷ A₂) (u .0) .0 (sym e)), absent-of-unique A₁ v A₂ (u .1))
-
 -- The edits of a node of the master s; B is the other master's nodes.
 module _ (s : Master) (B : List Node) where
   -- the number may be written otherwise
@@ -138,14 +101,14 @@ module _ (s : Master) (B : List Node) where
   pub arrival : (A : List Node) (v : Node) → Absent (v .number) A → Local (Names s (v .number)) (joinFrom s A B) (joinFrom s (arrive v A) B)
   arrival A v h = both (ahead-self (joinFrom s A B)) (rw (append-nil A) at (ahead (v .number) v A [] refl (rw (append-nil A) h)))
 
-  pub departure : (A : List Node) (n : ℕ) → Unique A → List·Memᴰ n (numbers A) → Local (Names s n) (joinFrom s A B) (joinFrom s (depart n A) B)
+  pub departure : (A : List Node) (n : ℕ) → Unique A → has n A ≡ true → Local (Names s n) (joinFrom s A B) (joinFrom s (depart n A) B)
   departure A n u i = go (split n A i)
     where
       go : Split n A → Local (Names s n) (joinFrom s A B) (joinFrom s (depart n A) B)
-      go t = rw (t .without-it, t .is-list) (both (ahead n (t .v) (t .A₁) (t .A₂) (t .is-number) (absent-of-unique (t .A₁) (t .v) (t .A₂) (rw (t .is-list) at u))) (ahead-self (joinFrom s (t .A₁ ++ t .A₂) B)))
+      go t = rw (t .departed, t .is-list) (both (ahead n (t .v) (t .A₁) (t .A₂) (t .is-number) (absent-of-unique (t .A₁) (t .v) (t .A₂) (rw (t .is-list) at u))) (ahead-self (joinFrom s (t .A₁ ++ t .A₂) B)))
 
   -- A change that keeps the number:
-  pub amendment : (A : List Node) (n : ℕ) (f : Node → Node) → ((v : Node) → f v .number ≡ v .number) → Unique A → List·Memᴰ n (numbers A)
+  pub amendment : (A : List Node) (n : ℕ) (f : Node → Node) → ((v : Node) → f v .number ≡ v .number) → Unique A → has n A ≡ true
       → Local (Names s n) (joinFrom s A B) (joinFrom s (amend f n A) B)
   amendment A n f k u i = go (split n A i)
     where
@@ -157,9 +120,9 @@ module _ (s : Master) (B : List Node) where
           fresh = absent-of-unique (t .A₁) (t .v) (t .A₂) (rw (t .is-list) at u)
 
   -- a move,
-  pub move : (A : List Node) (n : ℕ) (x y : ℤ) → Unique A → List·Memᴰ n (numbers A) → Local (Names s n) (joinFrom s A B) (joinFrom s (amend (moved x y) n A) B)
+  pub move : (A : List Node) (n : ℕ) (x y : ℤ) → Unique A → has n A ≡ true → Local (Names s n) (joinFrom s A B) (joinFrom s (amend (moved x y) n A) B)
   move A n x y = amendment A n (moved x y) (λ v. refl)
 
   -- or a new capacity.
-  pub resize : (A : List Node) (n k : ℕ) → Unique A → List·Memᴰ n (numbers A) → Local (Names s n) (joinFrom s A B) (joinFrom s (amend (resized k) n A) B)
+  pub resize : (A : List Node) (n k : ℕ) → Unique A → has n A ≡ true → Local (Names s n) (joinFrom s A B) (joinFrom s (amend (resized k) n A) B)
   resize A n k = amendment A n (resized k) (λ v. refl)
