@@ -1,0 +1,9 @@
+-- How bytes, nodes and links fit.
+pub mod Fields
+pub mod Rows
+pub mod Tables
+pub mod Accepted
+pub mod Faultless
+pub mod Edits
+pub mod Edited
+pub mod Lists
