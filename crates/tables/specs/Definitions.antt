@@ -6,3 +6,4 @@ pub mod Tables
 pub mod Lists
 pub mod Edits
 pub mod Bands
+pub mod Code

@@ -7,3 +7,9 @@ pub mod Faultless
 pub mod Edits
 pub mod Edited
 pub mod Lists
+pub mod Ranges
+pub mod Faults
+pub mod Search
+pub mod LookUp
+pub mod Decode
+pub mod Sound

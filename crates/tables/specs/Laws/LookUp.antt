@@ -1,0 +1,79 @@
+-- The look-up by number, as a definition, so that equal numbers give equal answers. It says nothing of what the chains hold.
+use Prim.Native.Nat.{ℕ, zero, suc, _-_, _*_, _/_, _%_, _<_, _≤_}
+use mathlib.Core.Path.{_≡_, sym, _∙_, ap}
+use mathlib.Core.Bool.{cond}
+use mathlib.Core.List.{List}
+use native.Mathlib.Omega.{arith}
+use lib.Dec.{ltb, eqb}
+use lib.ListN.{length, getD}
+use borrow.Author.Tests.{eq-eqb, ne-eqb, lt-ltb, le-ltb}
+use Rattle.tables.specs.Definitions.Sizes.{nodeRows}
+
+-- How many chains there are, and the chain of a number.
+abbrev pub slots : ℕ
+slots = 1024
+
+abbrev pub slotOf : ℕ → ℕ
+slotOf n = n * 2654435769 % 4294967296 / 4194304
+
+-- Along a chain from the entry i, f entries at most.
+unfoldable pub walk : List ℕ → List ℕ → ℕ → ℕ → ℕ → ℕ
+walk ns next n zero i = length ns
+walk ns next n (suc f) i =
+    cond (eqb i 0) (length ns)
+    (cond (ltb (length ns) i) (length ns)
+    (cond (eqb (getD ns (i - 1) 0) n) (i - 1) (walk ns next n f (getD next (i - 1) 0))))
+
+unfoldable pub lookUp : List ℕ → List ℕ → List ℕ → ℕ → ℕ
+unfolding walk
+lookUp ns head next n = walk ns next n nodeRows (getD head (slotOf n) 0)
+
+pub look-up : (ns head next : List ℕ) (n i s : ℕ) → s ≡ slotOf n → i ≡ getD head s 0 → lookUp ns head next n ≡ walk ns next n nodeRows i
+unfolding lookUp
+look-up ns head next n i s e d = ap (walk ns next n nodeRows) (sym (d ∙ ap (λ (k : ℕ). getD head k 0) e))
+
+-- One entry of a chain.
+module _ (ns next : List ℕ) (n f i : ℕ) where
+  pub walk-done : f ≤ 0 → walk ns next n f i ≡ length ns
+  unfolding walk
+  walk-done h = let e : f ≡ 0 = omega arith in rw e
+
+  module _ (h : 0 < f) where
+    more : f ≡ suc (f - 1)
+    more = omega arith
+
+    pub walk-none : i ≡ 0 → walk ns next n f i ≡ length ns
+    unfolding walk
+    walk-none e = rw (more, eq-eqb i 0 e)
+
+    pub walk-far : (i ≡ 0 → ⊥) → length ns < i → walk ns next n f i ≡ length ns
+    unfolding walk
+    walk-far e l = rw (more, ne-eqb i 0 e, lt-ltb (length ns) i l)
+
+    pub walk-here : (i ≡ 0 → ⊥) → i ≤ length ns → getD ns (i - 1) 0 ≡ n → walk ns next n f i ≡ i - 1
+    unfolding walk
+    walk-here e l d = rw (more, ne-eqb i 0 e, le-ltb (length ns) i l, eq-eqb (getD ns (i - 1) 0) n d)
+
+    pub walk-on : (i ≡ 0 → ⊥) → i ≤ length ns → (getD ns (i - 1) 0 ≡ n → ⊥) → walk ns next n f i ≡ walk ns next n (f - 1) (getD next (i - 1) 0)
+    unfolding walk
+    walk-on e l d =
+        ap (λ (g : ℕ). walk ns next n g i) more ∙ rw (ne-eqb i 0 e, le-ltb (length ns) i l, ne-eqb (getD ns (i - 1) 0) n d)
+
+-- No number stands twice.
+abbrev pub Distinct : List ℕ → Type 0
+Distinct ns = (i j : ℕ) → i < length ns → j < length ns → getD ns i 0 ≡ getD ns j 0 → i ≡ j
+
+-- Where each place is found by its number, none does.
+pub found-distinct : (ns head next : List ℕ) → ((i : ℕ) → i < length ns → lookUp ns head next (getD ns i 0) ≡ i) → Distinct ns
+found-distinct ns head next h i j a b e = sym (h i a) ∙ ap (lookUp ns head next) e ∙ h j b
+
+-- What a scan, and what a look-up, finds.
+pub record Scanned (ns : List ℕ) (n r : ℕ) : Type 0 where
+  pub within : r ≤ length ns
+  pub here : r < length ns → getD ns r 0 ≡ n
+  pub ahead : (k : ℕ) → k < r → getD ns k 0 ≡ n → ⊥
+
+pub record Found (ns : List ℕ) (n r : ℕ) : Type 0 where
+  pub within : r ≤ length ns
+  pub here : r < length ns → getD ns r 0 ≡ n
+  pub none : r ≡ length ns → (k : ℕ) → k < length ns → getD ns k 0 ≡ n → ⊥
