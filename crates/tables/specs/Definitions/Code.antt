@@ -16,7 +16,7 @@ abbrev pub faultOf : Option ℕ → FaultAnswer
 faultOf none = None
 faultOf (some k) = Row k
 
--- What reading a table gives: its nodes in columns where it has no fault, or the first faulty row.
-abbrev pub Read : List ℕ → List ℕ → List ℤ → List ℤ → List ℕ → Reading → Type 0
-Read t ns xs ys ks (Nodes n) = (firstFault t ≡ none) × Decoded t ns xs ys ks n
-Read t ns xs ys ks (Fault k) = firstFault t ≡ some k
+-- What reading a table gives: its nodes in columns where no row is faulty, or the first faulty row.
+pub record Read (t ns : List ℕ) (xs ys : List ℤ) (ks : List ℕ) (r : Reading) : Type 0 where
+  pub accepted : (n : ℕ) → r ≡ Nodes n → (firstFault t ≡ none) × Decoded t ns xs ys ks n
+  pub refused : (k : ℕ) → r ≡ Fault k → firstFault t ≡ some k

@@ -3,7 +3,7 @@ use borrow.Author.Needs.{needs}
 use mathlib.Core.Path.{sym, _∙_}
 use native.Mathlib.Omega.{arith}
 use lib.Seq.{length-take-le}
-use Rattle.tables.specs.Laws.Sound.{decoded-numbers, fault-row, fault-none}
+use Rattle.tables.specs.Laws.Sound.{decoded-numbers, fault-row, fault-none, read-accepted, read-refused}
 use Rattle.tables.proofs.nodes.read_table.Statement.{statement}
 use Rattle.tables.proofs.nodes.read_table.Tie as tie
 
@@ -38,7 +38,7 @@ same-length-6 : tie.Need-same-length-6
 same-length-6 c = search needs
 
 returns : tie.Need-returns
-returns c = (c .before .before .before .before .before .sound .ensures (c .if1 .taken), c .before .before .before .before .before .before .before .before .before .before .before .before .before .before .before .decode .ensures)
+returns c = read-accepted (c .before .before .before .before .before .sound .ensures (c .if1 .taken)) (c .before .before .before .before .before .before .before .before .before .before .before .before .before .before .before .decode .ensures)
 
 first-fault-requires : tie.Need-first-fault-requires
 first-fault-requires c κs = search needs
@@ -68,7 +68,7 @@ same-length-12 : tie.Need-same-length-12
 same-length-12 c = search needs
 
 returns-2 : tie.Need-returns-2
-returns-2 c = fault-row _ _ (sym (c .before .before .before .first-fault .ensures) ∙ c .before .fault .given .1)
+returns-2 c = read-refused _ _ _ _ _ _ (fault-row _ _ (sym (c .before .before .before .first-fault .ensures) ∙ c .before .fault .given .1))
 
 same-length-13 : tie.Need-same-length-13
 same-length-13 c = search needs
@@ -89,7 +89,7 @@ same-length-18 : tie.Need-same-length-18
 same-length-18 c = search needs
 
 returns-3 : tie.Need-returns-3
-returns-3 c = (fault-none _ (sym (c .before .before .first-fault .ensures) ∙ c .enum-told .given .1), c .before .before .before .before .before .before .before .before .before .before .before .before .before .before .before .before .before .before .decode .ensures)
+returns-3 c = read-accepted (fault-none _ (sym (c .before .before .first-fault .ensures) ∙ c .enum-told .given .1)) (c .before .before .before .before .before .before .before .before .before .before .before .before .before .before .before .before .before .before .decode .ensures)
 
 pub read-table-spec : {M : Type 1} → statement M
 read-table-spec =
