@@ -1,7 +1,9 @@
 // For tests before the calls stand: what `tables` makes of lent bytes, as one number.
 use tables::lookup::SLOTS;
-use tables::nodes::{read_table, Reading};
-use tables::sizes::{NODES, TABLE};
+use tables::nodes::Reading;
+use tables::nodes::read_table;
+use tables::sizes::NODES;
+use tables::sizes::TABLE;
 
 // The number of nodes of a table; 65,536 and the row where one is faulty; the largest number for a wrong length.
 #[no_mangle]
