@@ -13,3 +13,9 @@ pub mod Search
 pub mod LookUp
 pub mod Decode
 pub mod Sound
+pub mod LinkFields
+pub mod Digits
+pub mod Bands
+pub mod Spare
+pub mod Puts
+pub mod Changes

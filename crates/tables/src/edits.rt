@@ -1,0 +1,128 @@
+// An edit: what it asks for, whether its fields are right for that, and its effect on the bytes of one table.
+ghost use Prim.Native.Nat.{_+_, _≤_, _<_};
+ghost use mathlib.Core.Path.{_≡_};
+ghost use mathlib.Core.Bool.{_&&_};
+ghost use lib.Dec.{eqb};
+ghost use lib.ListN.{length};
+ghost use Rattle.tables.specs.Definitions.Sizes.{editSize, tableSize, nodeRows};
+ghost use Rattle.tables.specs.Definitions.Rows.{put};
+ghost use Rattle.tables.specs.Definitions.Tables.{capacityGood};
+ghost use Rattle.tables.specs.Definitions.Edits.{kindOf, capacityField, positionsZero, positionsGood, editFields, closed, editTable};
+ghost use Rattle.tables.specs.Laws.Changes.{changeOf, known, Applies};
+use super::fields;
+use super::rows;
+use super::sizes;
+
+// What an edit asks for. Unknown is every other kind.
+pub enum Change {
+    Arrival,
+    Departure,
+    Move,
+    Capacity,
+    Unknown,
+}
+
+// The one test of an edit's kind.
+pub fn change_of(edit: &[u8]) -> Change
+    requires { ⌜ length (now edit) ≡ editSize ⌝ }
+    ensures { λ r. ⌜ r ≡ changeOf (kindOf (now (edit .entry))) ⌝ }
+{
+    let kind = edit[0];
+    match kind {
+        1 => Change::Arrival,
+        2 => Change::Departure,
+        3 => Change::Move,
+        4 => Change::Capacity,
+        _ => Change::Unknown,
+    }
+}
+
+// Whether the fields that the change uses are in range, and the others zero. Of an unknown change they never are.
+pub fn fields_right(c: Change, edit: &[u8]) -> bool
+    requires { ⌜ (length (now edit) ≡ editSize) × (c ≡ changeOf (kindOf (now edit))) ⌝ }
+    ensures { λ r. ⌜ r ≡ (known c && editFields (now (edit .entry))) ⌝ }
+{
+    match c {
+        Change::Arrival => positions_good(edit) && capacity_good(edit),
+        Change::Departure => positions_zero(edit) && capacity_zero(edit),
+        Change::Move => positions_good(edit) && capacity_zero(edit),
+        Change::Capacity => positions_zero(edit) && capacity_good(edit),
+        Change::Unknown => false,
+    }
+}
+
+fn positions_zero(edit: &[u8]) -> bool
+    requires { ⌜ length (now edit) ≡ editSize ⌝ }
+    ensures { λ r. ⌜ r ≡ positionsZero (now (edit .entry)) ⌝ }
+{
+    fields::two_at(edit, sizes::EDIT_X) == 0 && fields::two_at(edit, sizes::EDIT_Y) == 0
+}
+
+fn positions_good(edit: &[u8]) -> bool
+    requires { ⌜ length (now edit) ≡ editSize ⌝ }
+    ensures { λ r. ⌜ r ≡ positionsGood (now (edit .entry)) ⌝ }
+{
+    rows::position_good_at(edit, sizes::EDIT_X) && rows::position_good_at(edit, sizes::EDIT_Y)
+}
+
+fn capacity_zero(edit: &[u8]) -> bool
+    requires { ⌜ length (now edit) ≡ editSize ⌝ }
+    ensures { λ r. ⌜ r ≡ eqb (capacityField (now (edit .entry))) 0 ⌝ }
+{
+    fields::two_at(edit, sizes::EDIT_CAPACITY) == 0
+}
+
+fn capacity_good(edit: &[u8]) -> bool
+    requires { ⌜ length (now edit) ≡ editSize ⌝ }
+    ensures { λ r. ⌜ r ≡ capacityGood (capacityField (now (edit .entry))) ⌝ }
+{
+    rows::capacity_good(fields::two_at(edit, sizes::EDIT_CAPACITY))
+}
+
+// The edit on the table of its master: `count` is the number of its nodes, `place` the edited node's row.
+pub fn apply(c: Change, t: &mut [u8], edit: &[u8], count: usize, place: usize)
+    requires { ⌜ Applies c (now edit) (now t) count place ⌝ }
+    ensures { λ _. ⌜ now (t .exit) ≡ editTable (now (edit .entry)) (now (t .entry)) ⌝ }
+{
+    match c {
+        Change::Arrival => copy_at(t, sizes::NODE * count, &edit[sizes::EDIT_NUMBER..]),
+        Change::Departure => close_row(t, place),
+        Change::Move => copy_at(
+            t,
+            sizes::NODE * place + sizes::NODE_X,
+            &edit[sizes::EDIT_X..sizes::EDIT_CAPACITY],
+        ),
+        Change::Capacity => copy_at(
+            t,
+            sizes::NODE * place + sizes::NODE_CAPACITY,
+            &edit[sizes::EDIT_CAPACITY..],
+        ),
+        Change::Unknown => {}
+    }
+}
+
+fn copy_at(t: &mut [u8], at: usize, from: &[u8])
+    requires { ⌜ at + length (now from) ≤ length (now t) ⌝ }
+    ensures { λ _. ⌜ now (t .exit) ≡ put (now (t .entry)) at (now (from .entry)) ⌝ }
+{
+    let mut j = 0;
+    while j < from.len() {
+        t[at + j] = from[j];
+        j += 1;
+    }
+}
+
+// Row k taken out: the later rows move up by one, and the last becomes zero.
+fn close_row(t: &mut [u8], k: usize)
+    requires { ⌜ (length (now t) ≡ tableSize) × (k < nodeRows) ⌝ }
+    ensures { λ _. ⌜ now (t .exit) ≡ closed (now (t .entry)) k ⌝ }
+{
+    let last = sizes::TABLE - sizes::NODE;
+    let mut i = sizes::NODE * k;
+    while i < last {
+        t[i] = t[i + sizes::NODE];
+        i += 1;
+    }
+    let zeros = [0u8; sizes::NODE];
+    copy_at(t, last, &zeros);
+}
