@@ -19,3 +19,6 @@ pub mod Bands
 pub mod Spare
 pub mod Puts
 pub mod Changes
+pub mod ListCode
+pub mod ListRead
+pub mod Compare

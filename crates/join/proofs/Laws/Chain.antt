@@ -1,0 +1,227 @@
+-- The chain: no row stands on it twice; a row pushed, rows taken. Assumes nothing.
+use Prim.Native.Nat.{ℕ, zero, suc, _+_, _*_, _-_, _<_, _≤_, min}
+use mathlib.Core.Path.{_≡_, refl, sym, _∙_, ap, subst}
+use mathlib.Core.Bool.{true, false, cond}
+use mathlib.Core.List.{List, []}
+use native.Mathlib.Decide.{ℕ-discrete, decLt}
+use native.Mathlib.Omega.{arith}
+use lib.Dec.{eqb}
+use lib.ListN.{length, getD, set, length-set}
+use lib.Seq.{getD-set-same, getD-set-other}
+use borrow.Author.Tests.{eq-eqb, ne-eqb}
+use Rattle.matching.specs.Definitions.Nodes.{Master, masterA, masterB}
+use Rattle.matching.specs.Definitions.Pairs.{Pair, Before}
+use Rattle.matching.specs.Laws.Order.{before-trans}
+use Rattle.matching.specs.Laws.Earliest.{Leq, strictly, equally}
+use Rattle.join.specs.declared.nearest.Near.{Near}
+use Rattle.join.specs.declared.chain.Move.{Move}
+use Rattle.join.specs.Rows.{Rows, size, gap, On, Faces, faces, between, rest, Sound}
+use Rattle.join.specs.Nearest.{Nearest, Chosen, Partner}
+use Rattle.join.specs.Chain.{Chain, Pushed, Mutually, Decided, Trimmed}
+use Rattle.join.proofs.Laws.Rest.{rest-none}
+use Rattle.join.proofs.Laws.Pairs.{gap-swap, faces-swap, faces-self, between-swap, same-row, not-before}
+
+-- Different numbers below m are at most m.
+replaced : (ℕ → ℕ) → ℕ → ℕ → ℕ → ℕ
+replaced f n m h = cond (eqb (f h) m) (f n) (f h)
+
+pub pigeonhole : (m n : ℕ) (f : ℕ → ℕ) → ((h : ℕ) → h < n → f h < m) → ((h k : ℕ) → h < k → k < n → f h ≡ f k → ⊥) → n ≤ m
+unfolding replaced
+pigeonhole m zero f low new = omega arith
+pigeonhole zero (suc n) f low new = absurd (omega (arith, low 0 (omega arith)))
+pigeonhole (suc m) (suc n) f low new = omega (arith, pigeonhole m n (replaced f n m) fewer apart)
+  where
+    hit : (h : ℕ) → f h ≡ m → replaced f n m h ≡ f n
+    hit h e = rw (eq-eqb (f h) m e)
+
+    miss : (h : ℕ) → (f h ≡ m → ⊥) → replaced f n m h ≡ f h
+    miss h e = rw (ne-eqb (f h) m e)
+
+    fewer : (h : ℕ) → h < n → replaced f n m h < m
+    fewer h l = go (ℕ-discrete (f h) m) (ℕ-discrete (f n) m)
+      where
+        go : Dec (f h ≡ m) → Dec (f n ≡ m) → replaced f n m h < m
+        go (yes e) (yes g) = absurd (new h n l (omega arith) (e ∙ sym g))
+        go (yes e) (no g) = omega (arith, hit h e, low n (omega arith))
+        go (no e) g = omega (arith, miss h e, low h (omega arith))
+
+    apart : (h k : ℕ) → h < k → k < n → replaced f n m h ≡ replaced f n m k → ⊥
+    apart h k l b q = go (ℕ-discrete (f h) m) (ℕ-discrete (f k) m)
+      where
+        go : Dec (f h ≡ m) → Dec (f k ≡ m) → ⊥
+        go (yes e) (yes g) = new h k l (omega arith) (e ∙ sym g)
+        go (yes e) (no g) = new k n b (omega arith) (sym (sym (hit h e) ∙ q ∙ miss k g))
+        go (no e) (yes g) = new h n (omega arith) (omega arith) (sym (miss h e) ∙ q ∙ hit k g)
+        go (no e) (no g) = new h k l (omega arith) (sym (miss h e) ∙ q ∙ miss k g)
+
+module _ (R : Rows) (left chain : List ℕ) (n : ℕ) (c : Chain R left chain n) where
+  -- No row stands on the chain twice: its nearest would be as early as a pair further up, which comes earlier.
+  pub once : (h k : ℕ) → h < k → k < n → getD chain h 0 ≡ getD chain k 0 → ⊥
+  once h k l b e = go (ℕ-discrete k (h + 1))
+    where
+      row : ℕ → ℕ
+      row i = getD chain i 0
+
+      go : Dec (k ≡ h + 1) → ⊥
+      go (yes q) = faces-self R (subst (Faces R (row h)) (sym (e ∙ ap row q)) (c .facing h (omega arith)))
+      go (no q) = not-before (c .nearest h (omega arith) (row g) (faces-swap R to) (c .alive g (omega arith)))
+          (subst (λ (p : Pair). Before p (between R (row h) (row (h + 1)))) (ap (between R (row g)) back ∙ between-swap R to) (c .falls h g (omega arith) (omega arith)))
+        where
+          g : ℕ
+          g = k - 1
+
+          back : row (g + 1) ≡ row h
+          back = ap row (omega arith) ∙ sym e
+
+          to : Faces R (row g) (row h)
+          to = subst (Faces R (row g)) back (c .facing g (omega arith))
+
+  pub depth-fits : n ≤ size R
+  depth-fits = pigeonhole (size R) n (λ h. getD chain h 0) (c .inside) once
+
+-- The same pair from its other row.
+pub mutually-swap : (R : Rows) (left chain : List ℕ) (n t w d : ℕ) → Mutually R left chain n t w d → R .split ≤ t → Mutually R left chain n w t d × (w < R .split)
+mutually-swap R left chain n t w d m l =
+    (record { deep = m .deep; onto-j = m .onto-i; onto-i = m .onto-j; not-i = m .not-j; not-j = m .not-i }, go (m .onto-j .faces))
+  where
+    go : Faces R t w → w < R .split
+    go (faces masterA h g) = absurd (omega arith)
+    go (faces masterB h g) = g .1
+
+-- A list with one element stored.
+set-below : (l : List ℕ) (n w h : ℕ) → h < n → getD (set l n w) h 0 ≡ getD l h 0
+set-below l n w h g = getD-set-other l n h w 0 (λ e. omega arith)
+
+set-at : (l : List ℕ) (n w h : ℕ) → n < length l → h ≡ n → getD (set l n w) h 0 ≡ w
+set-at l n w h g e = rw e (getD-set-same l n w 0 g)
+
+module _ (R : Rows) (left : List ℕ) (v : Sound R left) (chain : List ℕ) (n : ℕ) (c : Chain R left chain n) where
+  abbrev row : ℕ → ℕ
+  row h = getD chain h 0
+
+  pub room : n < length chain
+  room = omega (arith, depth-fits R left chain n c, v .most, c .room)
+
+  -- A chain with one row more.
+  module _ (w : ℕ) (p : Pushed R left chain n w) where
+    -- The new pair is earlier than the last,
+    strict : (g : ℕ) → n ≡ g + 2 → Before (between R (row (g + 1)) w) (between R (row g) (row (g + 1)))
+    strict g e = go (q .nearest (row g) down (c .alive g (omega arith)))
+      where
+        q : Chosen R left (row (g + 1)) w (gap (R .xs) (R .ys) (row (g + 1)) w)
+        q = p .next (g + 1) (omega arith)
+
+        down : Faces R (row (g + 1)) (row g)
+        down = faces-swap R (c .facing g (omega arith))
+
+        go : Leq (between R (row (g + 1)) w) (between R (row (g + 1)) (row g)) → Before (between R (row (g + 1)) w) (between R (row g) (row (g + 1)))
+        go (strictly b) = subst (Before (between R (row (g + 1)) w)) (between-swap R down) b
+        go (equally s) = absurd (p .new g e (same-row R v (row (g + 1)) w (row g) (q .faces) down s))
+
+    -- and than all before it.
+    later : (h k : ℕ) → h < k → n ≡ k + 1 → Before (between R (row k) w) (between R (row h) (row (h + 1)))
+    later h k l e = subst (λ (i : ℕ). Before (between R (row i) w) (between R (row h) (row (h + 1)))) (omega arith) (go (ℕ-discrete h (k - 1)))
+      where
+        go : Dec (h ≡ k - 1) → Before (between R (row (k - 1 + 1)) w) (between R (row h) (row (h + 1)))
+        go (yes q) = rw q (strict (k - 1) (omega arith))
+        go (no q) = before-trans (strict (k - 1) (omega arith)) (c .falls h (k - 1) (omega arith) (omega arith))
+
+    pub push : Chain R left (set chain n w) (n + 1)
+    push = record { room = simp length-set (c .room); inside = inside; alive = alive; facing = facing; nearest = nearest; falls = falls }
+      where
+        new : ℕ → ℕ
+        new h = getD (set chain n w) h 0
+
+        top : (P : ℕ → Type 0) → ((h : ℕ) → h < n → P (row h)) → P w → (h : ℕ) → h < n + 1 → P (new h)
+        top P f y h l = go (ℕ-discrete h n)
+          where
+            go : Dec (h ≡ n) → P (new h)
+            go (yes e) = rw (set-at chain n w h room e) y
+            go (no e) = rw (set-below chain n w h (omega arith)) (f h (omega arith))
+
+        inside : (h : ℕ) → h < n + 1 → new h < size R
+        inside = top (λ k. k < size R) (c .inside) (p .inside)
+
+        alive : (h : ℕ) → h < n + 1 → 1 ≤ getD left (new h) 0
+        alive = top (λ k. 1 ≤ getD left k 0) (c .alive) (p .alive)
+
+        -- what holds of each row and the next, at its height
+        next : (P : ℕ → ℕ → ℕ → Type 0) → ((h : ℕ) → h + 1 < n → P h (row h) (row (h + 1))) → ((h : ℕ) → n ≡ h + 1 → P h (row h) w) → (h : ℕ) → h + 1 < n + 1 → P h (new h) (new (h + 1))
+        next P f y h l = rw (set-below chain n w h (omega arith)) (go (ℕ-discrete (h + 1) n))
+          where
+            go : Dec (h + 1 ≡ n) → P h (row h) (new (h + 1))
+            go (yes e) = rw (set-at chain n w (h + 1) room e) (y h (sym e))
+            go (no e) = rw (set-below chain n w (h + 1) (omega arith)) (f h (omega arith))
+
+        facing : (h : ℕ) → h + 1 < n + 1 → Faces R (new h) (new (h + 1))
+        facing = next (λ h. Faces R) (c .facing) (λ h e. p .next h e .faces)
+
+        nearest : (h : ℕ) → h + 1 < n + 1 → Nearest R left (new h) (new (h + 1))
+        nearest = next (λ h. Nearest R left) (c .nearest) (λ h e. p .next h e .nearest)
+
+        falls : (h k : ℕ) → h < k → k + 1 < n + 1 → Before (between R (new k) (new (k + 1))) (between R (new h) (new (h + 1)))
+        falls h k l b =
+            rw (set-below chain n w h (omega arith), set-below chain n w (h + 1) (omega arith))
+            (next (λ g i j. h < g → Before (between R i j) (between R (row h) (row (h + 1)))) (λ g a q. c .falls h g q a) (λ g e q. later h g q e) k b l)
+
+  -- A chain cut short, after rows lost something.
+  pub cut : (left' : List ℕ) (r : ℕ) → ((q : ℕ) → getD left' q 0 ≤ getD left q 0) → ((h : ℕ) → h + 2 < n → getD left' (getD chain h 0) 0 ≡ getD left (getD chain h 0) 0)
+      → Trimmed left' chain n r → Chain R left' chain r
+  cut left' r low same t = record {
+    room = c .room;
+    inside = λ h l. c .inside h (omega (arith, t .less));
+    alive = λ h l. alive h l (decLt (h + 2) n);
+    facing = λ h l. c .facing h (omega (arith, t .less));
+    nearest = λ h l k f a. c .nearest h (omega (arith, t .less)) k f (omega (arith, low k));
+    falls = λ h k l b. c .falls h k l (omega (arith, t .less));
+  }
+    where
+      alive : (h : ℕ) → h < r → Dec (h + 2 < n) → 1 ≤ getD left' (getD chain h 0) 0
+      alive h l (yes e) = omega (arith, same h e, c .alive h (omega (arith, t .less)))
+      alive h l (no e) = t .top h l (omega arith)
+
+-- What the top's partner decides.
+module _ (R : Rows) (left : List ℕ) (v : Sound R left) (chain : List ℕ) (n : ℕ) (c : Chain R left chain n) (w : Near) (one : 1 ≤ n) (p : Partner R left (getD chain (n - 1) 0) w) where
+  abbrev top : ℕ
+  top = getD chain (n - 1) 0
+
+  pub stop : w .d ≡ 4294967295 → rest R left ≡ []
+  stop e = rest-none R left v (go (decLt top (R .split)))
+    where
+      go : Dec (top < R .split) → (i j : ℕ) → On R masterA i → On R masterB j → min (getD left i 0) (getD left j 0) ≡ 0
+      go (yes h) i j hi hj = omega (arith, p .none e j (faces masterA (omega arith, h) hj))
+      go (no h) i j hi hj = omega (arith, p .none e i (faces masterB (omega arith, c .inside (n - 1) (omega arith)) hi))
+
+  module _ (some : w .d ≡ 4294967295 → ⊥) where
+    q : Chosen R left top (w .at) (w .d)
+    q = p .some some
+
+    pub may-push : (2 ≤ n → getD chain (n - 2) 0 ≡ w .at → ⊥) → Pushed R left chain n (w .at)
+    may-push new = record {
+      inside = inside (q .faces);
+      alive = q .alive;
+      next = λ h e. subst (λ (k : ℕ). Chosen R left (getD chain k 0) (w .at) (gap (R .xs) (R .ys) (getD chain k 0) (w .at))) (omega arith)
+          (record { faces = q .faces; alive = q .alive; is-d = refl; nearest = q .nearest });
+      new = λ h e d. new (omega arith) (ap (λ (k : ℕ). getD chain k 0) (omega arith) ∙ sym d);
+    }
+      where
+        inside : Faces R top (w .at) → w .at < size R
+        inside (faces masterA h g) = g .1
+        inside (faces masterB h g) = omega (arith, v .parts)
+
+    pub may-take : 2 ≤ n → getD chain (n - 2) 0 ≡ w .at → Mutually R left chain n top (w .at) (w .d)
+    may-take two e = record {
+      deep = two;
+      onto-j = q;
+      onto-i = record {
+        faces = faces-swap R (q .faces);
+        alive = c .alive (n - 1) (omega arith);
+        is-d = q .is-d ∙ gap-swap (R .xs) (R .ys) top (w .at);
+        nearest = subst (λ (i : ℕ). Nearest R left i top) e (subst (λ (k : ℕ). Nearest R left (getD chain (n - 2) 0) (getD chain k 0)) (omega arith) (c .nearest (n - 2) (omega arith)));
+      };
+      not-i = λ h l. once R left chain n c h (n - 1) (omega arith) (omega arith);
+      not-j = λ h l d. once R left chain n c h (n - 2) (omega arith) (omega arith) (d ∙ sym e);
+    }
+
+pub decided-at : (R : Rows) (left chain : List ℕ) (n k : ℕ) (m : Move) → n ≡ k → Decided R left chain k m → Decided R left chain n m
+decided-at R left chain n k m e d = subst (λ (x : ℕ). Decided R left chain x m) (sym e) d

@@ -1,0 +1,88 @@
+-- The pair of two rows that face each other, seen from either. Assumes nothing.
+use Prim.Native.Nat.{ℕ, _+_, _*_, _^_, _<_, _≤_}
+use mathlib.Core.Path.{_≡_, refl, sym, _∙_, ap, ap₂}
+use mathlib.Core.List.{List}
+use native.Mathlib.Omega.{arith}
+use lib.ListN.{length, getD}
+use lib.IntN.{ℤ, pos, negℤ, natAbs, _+ℤ_, _-ℤ_, negℤ-negℤ, negℤ-+ℤ, +ℤ-comm}
+use lib.Signed.{mag}
+use mir.Syntax.{w16}
+use mir.Val.{toZ, ofZ}
+use mir.Facts.{toZ-ofZ}
+use borrow.Author.Tests.{lt-ltb, le-ltb}
+use Rattle.matching.specs.Definitions.Nodes.{Master, masterA, masterB, each}
+use Rattle.matching.specs.Definitions.Pairs.{Pair, square, Before, nearer, lowerA, lowerB}
+use Rattle.matching.specs.Laws.Distance.{abs-neg, inside-reach, distance-fits}
+use Rattle.matching.specs.Laws.Order.{before-trans, before-irrefl}
+use Rattle.matching.specs.Laws.Earliest.{Leq, strictly, equally}
+use Rattle.join.specs.Rows.{Columns, Placed, Rows, gap, other, size, On, Faces, faces, rowPair, between, Sound}
+use Rattle.join.specs.Nearest.{key}
+
+-- A position is read back from its 16 bits.
+pub back : (z : ℤ) → mag z < 2 ^ 15 → toZ w16 (ofZ w16 z) ≡ z
+back z h = toZ-ofZ (record { sfits = h })
+
+-- Distances are the same from either end, and fit four bytes.
+flip : (x y : ℤ) → square (x -ℤ y) ≡ square (y -ℤ x)
+flip x y = ap (λ (n : ℕ). n * n) (sym (abs-neg (x -ℤ y)) ∙ ap natAbs (negℤ-+ℤ x (negℤ y) ∙ ap (λ (z : ℤ). negℤ x +ℤ z) (negℤ-negℤ y) ∙ +ℤ-comm (negℤ x) y))
+
+pub gap-swap : (xs ys : List ℤ) (i j : ℕ) → gap xs ys i j ≡ gap xs ys j i
+unfolding gap
+gap-swap xs ys i j = ap₂ _+_ (flip (getD xs i (pos 0)) (getD xs j (pos 0))) (flip (getD ys i (pos 0)) (getD ys j (pos 0)))
+
+pub gap-fits : {xs ys : List ℤ} {i j : ℕ} → Placed xs ys i → Placed xs ys j → gap xs ys i j < 4294967295
+unfolding gap
+gap-fits {xs} {ys} {i} {j} p q =
+    distance-fits (getD xs i (pos 0)) (getD ys i (pos 0)) (getD xs j (pos 0)) (getD ys j (pos 0))
+    (inside-reach (getD xs i (pos 0)) (getD ys i (pos 0)) (getD xs j (pos 0)) (getD ys j (pos 0)) (p .inside) (q .inside))
+
+pub placed : {ns : List ℕ} {xs ys : List ℤ} {cs : List ℕ} (k : ℕ) → Columns ns xs ys cs → k < length ns → Placed xs ys k
+placed k c h = record { in-x = omega (arith, c .len-x); in-y = omega (arith, c .len-y); inside = c .inside k h }
+
+-- Order among pairs that share a node: by distance, then by the other number.
+shared : (s : Master) (d n e m z : ℕ) → Leq (key d n) (key e m)
+    → Leq (each (record { distance = d; a = z; b = n }) (record { distance = d; a = n; b = z }) s) (each (record { distance = e; a = z; b = m }) (record { distance = e; a = m; b = z }) s)
+shared masterA d n e m z (strictly (nearer h)) = strictly (nearer h)
+shared masterA d n e m z (strictly (lowerA f h)) = strictly (lowerB f refl h)
+shared masterB d n e m z (strictly (nearer h)) = strictly (nearer h)
+shared masterB d n e m z (strictly (lowerA f h)) = strictly (lowerA f h)
+shared s d n e m z (strictly (lowerB f g h)) = absurd (omega arith)
+shared masterA d n e m z (equally f) = equally (ap (λ (q : Pair). record { distance = q .distance; a = z; b = q .a }) f)
+shared masterB d n e m z (equally f) = equally (ap (λ (q : Pair). record { distance = q .distance; a = q .a; b = z }) f)
+
+pub not-before : {p q : Pair} → Leq p q → Before q p → ⊥
+not-before (strictly h) b = before-irrefl (before-trans h b)
+not-before (equally e) b = before-irrefl (rw e at b)
+
+module _ (R : Rows) where
+  pub between-on : (s : Master) (t k : ℕ) → On R s t → between R t k ≡ each (rowPair R t k) (rowPair R k t) s
+  unfolding between
+  between-on masterA t k h = rw (lt-ltb t (R .split) (h .1))
+  between-on masterB t k h = rw (le-ltb t (R .split) (h .0))
+
+  pub faces-swap : {t k : ℕ} → Faces R t k → Faces R k t
+  faces-swap (faces masterA h g) = faces masterB g h
+  faces-swap (faces masterB h g) = faces masterA g h
+
+  pub faces-self : {t : ℕ} → Faces R t t → ⊥
+  faces-self (faces masterA h g) = omega arith
+  faces-self (faces masterB h g) = omega arith
+
+  pub between-swap : {t k : ℕ} → Faces R t k → between R t k ≡ between R k t
+  between-swap {t} {k} (faces masterA h g) = between-on masterA t k h ∙ sym (between-on masterB k t g)
+  between-swap {t} {k} (faces masterB h g) = between-on masterB t k h ∙ sym (between-on masterA k t g)
+
+  -- A row that comes first by distance and number makes the earlier pair.
+  pub closer : (s : Master) (t w k : ℕ) → On R s t
+      → Leq (key (gap (R .xs) (R .ys) t w) (getD (R .ns) w 0)) (key (gap (R .xs) (R .ys) t k) (getD (R .ns) k 0)) → Leq (between R t w) (between R t k)
+  closer masterA t w k h l = rw (between-on masterA t w h, between-on masterA t k h) (shared masterA _ _ _ _ _ l)
+  closer masterB t w k h l = rw (between-on masterB t w h, between-on masterB t k h, gap-swap (R .xs) (R .ys) w t, gap-swap (R .xs) (R .ys) k t) (shared masterB _ _ _ _ _ l)
+
+  -- Where the pairs are the same, so are the rows.
+  pub same-row : {left : List ℕ} → Sound R left → (t w u : ℕ) → Faces R t w → Faces R t u → between R t w ≡ between R t u → w ≡ u
+  same-row v t w u (faces masterA h g) (faces masterA i k) e =
+      v .distinct masterB w u g k (ap (λ (p : Pair). p .b) (sym (between-on masterA t w h) ∙ e ∙ between-on masterA t u h))
+  same-row v t w u (faces masterB h g) (faces masterB i k) e =
+      v .distinct masterA w u g k (ap (λ (p : Pair). p .a) (sym (between-on masterB t w h) ∙ e ∙ between-on masterB t u h))
+  same-row v t w u (faces masterA h g) (faces masterB i k) e = absurd (omega arith)
+  same-row v t w u (faces masterB h g) (faces masterA i k) e = absurd (omega arith)

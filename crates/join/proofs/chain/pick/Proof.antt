@@ -1,0 +1,77 @@
+-- `chain::pick` meets its contract. The loop's invariant: the links taken, put into those still to be taken, are the join of what was left at first.
+-- The measure is the step's. Assumes nothing.
+use Prim.Native.Nat.{ℕ}
+use mathlib.Core.Path.{_≡_, refl, sym, _∙_}
+use mathlib.Core.Bool.{Bool, false}
+use mathlib.Core.List.{[]}
+use native.Mathlib.Omega.{arith}
+use Rattle.matching.specs.Definitions.Columns.{tabulate, linksOf}
+use Rattle.matching.specs.Theorems.Mutual.{puts}
+use Rattle.join.specs.Rows.{rows, rest}
+use Rattle.join.specs.Order.{table}
+use Rattle.join.specs.Chain.{Good, whole, measure}
+use Rattle.join.proofs.Laws.Step.{good-start}
+use Rattle.join.proofs.chain.pick.Statement.{statement}
+use Rattle.join.proofs.chain.pick.Tie as tie
+
+abbrev Inv-loop : tie.InvT-loop
+Inv-loop split ns xs ys left₀ chain₀ la₀ lb₀ ld₀ lm₀ s₀ left chain la lb ld lm s =
+    Good (rows ns xs ys split) left chain (table la lb ld lm) s
+    × (whole (rows ns xs ys split) left (table la lb ld lm) (s .links) ≡ rest (rows ns xs ys split) left₀)
+    × (s .more ≡ false → rest (rows ns xs ys split) left ≡ [])
+
+abbrev μ-loop : tie.MeasureT-loop
+μ-loop split ns xs ys left₀ chain₀ la₀ lb₀ ld₀ lm₀ s₀ left chain la lb ld lm s = measure (rows ns xs ys split) left s
+
+loop-holds : tie.Need-loop-holds Inv-loop μ-loop
+unfolding whole linksOf tabulate puts
+loop-holds c = let p = c .before .before .before .before .before .before .before .pre in (good-start _ _ _ _ (p .0) (p .1) (p .2), refl, λ e. let z : _≡_ {A = ℕ} 0 1 = cc in absurd (omega arith))
+
+step-requires : tie.Need-step-requires Inv-loop μ-loop
+step-requires c κs = (c .before .before .before .before .before .before .before .loop .inv .0, c .before .before .before .before .before .before .loop-test .taken)
+
+loop-less : tie.Need-loop-less Inv-loop μ-loop
+loop-less c = c .before .before .before .before .before .before .before .before .before .before .before .before .step .ensures .falls
+
+loop-again : tie.Need-loop-again Inv-loop μ-loop
+loop-again c = let r = c .before .before .before .before .before .before .before .before .before .before .before .before .step .ensures in (r .good, r .same ∙ c .before .before .before .before .before .before .before .before .before .before .before .before .before .before .before .before .before .before .before .before .loop .inv .1, r .ends)
+
+same-length : tie.Need-same-length Inv-loop μ-loop
+same-length c = c .before .loop .inv .0 .sound .columns .len-c ∙ sym (c .before .before .before .before .before .before .before .before .before .pre .0 .columns .len-c)
+
+same-length-2 : tie.Need-same-length-2 Inv-loop μ-loop
+same-length-2 c = c .before .loop .inv .0 .path .room ∙ sym (c .before .before .before .before .before .before .before .before .before .pre .1)
+
+same-length-3 : tie.Need-same-length-3 Inv-loop μ-loop
+same-length-3 c = c .before .loop .inv .0 .room .in-a ∙ sym (c .before .before .before .before .before .before .before .before .before .pre .2 .in-a)
+
+same-length-4 : tie.Need-same-length-4 Inv-loop μ-loop
+same-length-4 c = c .before .loop .inv .0 .room .in-b ∙ sym (c .before .before .before .before .before .before .before .before .before .pre .2 .in-b)
+
+same-length-5 : tie.Need-same-length-5 Inv-loop μ-loop
+same-length-5 c = c .before .loop .inv .0 .room .in-d ∙ sym (c .before .before .before .before .before .before .before .before .before .pre .2 .in-d)
+
+same-length-6 : tie.Need-same-length-6 Inv-loop μ-loop
+same-length-6 c = c .before .loop .inv .0 .room .in-m ∙ sym (c .before .before .before .before .before .before .before .before .before .pre .2 .in-m)
+
+returns : tie.Need-returns Inv-loop μ-loop
+unfolding whole
+returns c = let i = c .before .loop .inv in record { most = omega (arith, i .0 .count); room = i .0 .room; all = rw (i .2 (c .loop-test .left)) at (i .1) }
+
+pub pick-spec : {M : Type 1} → statement M
+pick-spec =
+    tie.close
+    (tie.spec
+    Inv-loop
+    μ-loop
+    loop-holds
+    step-requires
+    loop-less
+    loop-again
+    same-length
+    same-length-2
+    same-length-3
+    same-length-4
+    same-length-5
+    same-length-6
+    returns)

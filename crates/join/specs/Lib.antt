@@ -1,0 +1,6 @@
+-- What the contracts of this crate cite. A caller needs Contract alone.
+pub mod Rows
+pub mod Contract
+pub mod Nearest
+pub mod Order
+pub mod Chain

@@ -1,0 +1,207 @@
+// The chain of nearest neighbours: each row on it has the next as its nearest; where two rows are each other's, their pair is taken.
+use crate::nearest;
+use crate::order;
+ghost use mathlib.Core.Path.{_≡_};
+ghost use mathlib.Core.Bool.{true};
+ghost use Prim.Native.Nat.{ℕ, _+_, _<_, _≤_, min};
+ghost use lib.ListN.{length, getD};
+ghost use Rattle.join.specs.Contract.{Room};
+ghost use Rattle.join.specs.Rows.{rows, Sound};
+ghost use Rattle.join.specs.Order.{table, Has};
+ghost use Rattle.join.specs.Chain.{Chain, Mutually, Decided, Trimmed, Taken, Good, Stepped, Picked};
+
+// What to do next: stop, push a row, or take the pair of A's row and B's row at a distance.
+pub enum Move {
+    Stop,
+    Push(usize),
+    Take(usize, usize, u32),
+}
+
+// How many rows stand on the chain, how many links are written, and whether there may be more.
+pub struct State {
+    pub depth: usize,
+    pub links: usize,
+    pub more: bool,
+}
+
+// A new chain begins with the first of A's rows that has something left.
+fn start(split: usize, chain: &[usize], ns: &[u32], xs: &[i16], ys: &[i16], left: &[u32]) -> Move
+    requires { ⌜ Sound (rows (now ns) (now xs) (now ys) split) (now left) ⌝ }
+    ensures { λ r. ⌜ Decided (rows (now (ns .entry)) (now (xs .entry)) (now (ys .entry)) split) (now (left .entry)) (now (chain .entry)) 0 r ⌝ }
+{
+    let mut i = 0;
+    while i < split {
+        if left[i] != 0 {
+            return Move::Push(i);
+        }
+        i += 1;
+    }
+    Move::Stop
+}
+
+// Rows t and w are each other's nearest: which of them is A's.
+fn sided(
+    t: usize,
+    w: usize,
+    d: u32,
+    depth: usize,
+    split: usize,
+    chain: &[usize],
+    ns: &[u32],
+    xs: &[i16],
+    ys: &[i16],
+    left: &[u32],
+) -> Move
+    requires { ⌜ Mutually (rows (now ns) (now xs) (now ys) split) (now left) (now chain) depth t w d ⌝ }
+    ensures { λ r. ⌜ Decided (rows (now (ns .entry)) (now (xs .entry)) (now (ys .entry)) split) (now (left .entry)) (now (chain .entry)) depth r ⌝ }
+{
+    if t < split {
+        return Move::Take(t, w, d);
+    }
+    Move::Take(w, t, d)
+}
+
+// The top's nearest row is pushed, unless it is the row below the top.
+fn decide(
+    depth: usize,
+    split: usize,
+    chain: &[usize],
+    ns: &[u32],
+    xs: &[i16],
+    ys: &[i16],
+    left: &[u32],
+) -> Move
+    requires { ⌜ Sound (rows (now ns) (now xs) (now ys) split) (now left) × Chain (rows (now ns) (now xs) (now ys) split) (now left) (now chain) depth ⌝ }
+    ensures { λ r. ⌜ Decided (rows (now (ns .entry)) (now (xs .entry)) (now (ys .entry)) split) (now (left .entry)) (now (chain .entry)) depth r ⌝ }
+{
+    if depth == 0 {
+        return start(split, chain, ns, xs, ys, left);
+    }
+    let t = chain[depth - 1];
+    let w = nearest::partner(t, split, ns, xs, ys, left);
+    let d = w.d;
+    if d == 4294967295 {
+        return Move::Stop;
+    }
+    let at = w.at;
+    if depth > 1 {
+        if chain[depth - 2] == at {
+            return sided(t, at, d, depth, split, chain, ns, xs, ys, left);
+        }
+    }
+    Move::Push(at)
+}
+
+fn lesser(x: u32, y: u32) -> u32
+    ensures { λ r. ⌜ r ≡ min x y ⌝ }
+{
+    if x < y { x } else { y }
+}
+
+// Takes the pair of A's row i and B's row j as link n.
+fn take(
+    i: usize,
+    j: usize,
+    d: u32,
+    n: usize,
+    ns: &[u32],
+    left: &mut [u32],
+    la: &mut [u32],
+    lb: &mut [u32],
+    ld: &mut [u32],
+    lm: &mut [u32],
+)
+    requires { ⌜ (length (now left) ≡ length (now ns)) × (i < length (now ns)) × (j < length (now ns)) ⌝ }
+    requires { ⌜ Has (table (now la) (now lb) (now ld) (now lm)) (n + 1) ⌝ }
+    ensures { λ _. ⌜ Taken (now (ns .entry)) (now (left .entry)) i j d n (table (now (la .entry)) (now (lb .entry)) (now (ld .entry)) (now (lm .entry))) (now (left .exit)) (table (now (la .exit)) (now (lb .exit)) (now (ld .exit)) (now (lm .exit))) ⌝ }
+{
+    let x = left[i];
+    let y = left[j];
+    let m = lesser(x, y);
+    left[i] = x - m;
+    left[j] = y - m;
+    order::store(la, lb, ld, lm, n, ns[i], ns[j], d, m);
+}
+
+// Pops the top, and the row below it where that is used up.
+fn trim(depth: usize, chain: &[usize], left: &[u32]) -> usize
+    requires { ⌜ (2 ≤ depth) × (depth ≤ length (now chain)) × ((h : ℕ) → h < depth → getD (now chain) h 0 < length (now left)) ⌝ }
+    ensures { λ r. ⌜ Trimmed (now (left .entry)) (now (chain .entry)) depth r ⌝ }
+{
+    let below = chain[depth - 2];
+    if left[below] == 0 {
+        return depth - 2;
+    }
+    depth - 1
+}
+
+fn step(
+    s: State,
+    split: usize,
+    ns: &[u32],
+    xs: &[i16],
+    ys: &[i16],
+    left: &mut [u32],
+    chain: &mut [usize],
+    la: &mut [u32],
+    lb: &mut [u32],
+    ld: &mut [u32],
+    lm: &mut [u32],
+) -> State
+    requires { ⌜ Good (rows (now ns) (now xs) (now ys) split) (now left) (now chain) (table (now la) (now lb) (now ld) (now lm)) s × (s .more ≡ true) ⌝ }
+    ensures { λ r. ⌜ Stepped (rows (now (ns .entry)) (now (xs .entry)) (now (ys .entry)) split) (now (left .entry)) (now (chain .entry)) (table (now (la .entry)) (now (lb .entry)) (now (ld .entry)) (now (lm .entry))) s (now (left .exit)) (now (chain .exit)) (table (now (la .exit)) (now (lb .exit)) (now (ld .exit)) (now (lm .exit))) r ⌝ }
+{
+    let depth = s.depth;
+    let n = s.links;
+    let m = decide(depth, split, chain, ns, xs, ys, left);
+    match m {
+        Move::Stop => State {
+            depth: depth,
+            links: n,
+            more: false,
+        },
+        Move::Push(w) => {
+            chain[depth] = w;
+            State {
+                depth: depth + 1,
+                links: n,
+                more: true,
+            }
+        },
+        Move::Take(i, j, d) => {
+            take(i, j, d, n, ns, left, la, lb, ld, lm);
+            State {
+                depth: trim(depth, chain, left),
+                links: n + 1,
+                more: true,
+            }
+        },
+    }
+}
+
+// Takes pairs until none is left; gives the number of links, which are in the order of the picks.
+pub fn pick(
+    split: usize,
+    ns: &[u32],
+    xs: &[i16],
+    ys: &[i16],
+    left: &mut [u32],
+    chain: &mut [usize],
+    la: &mut [u32],
+    lb: &mut [u32],
+    ld: &mut [u32],
+    lm: &mut [u32],
+) -> usize
+    requires { ⌜ Sound (rows (now ns) (now xs) (now ys) split) (now left) × (length (now chain) ≡ 1025) × Room (now la) (now lb) (now ld) (now lm) ⌝ }
+    ensures { λ r. ⌜ Picked (rows (now (ns .entry)) (now (xs .entry)) (now (ys .entry)) split) (now (left .entry)) (table (now (la .exit)) (now (lb .exit)) (now (ld .exit)) (now (lm .exit))) r ⌝ }
+{
+    let mut s = State {
+        depth: 0,
+        links: 0,
+        more: true,
+    };
+    while s.more {
+        s = step(s, split, ns, xs, ys, left, chain, la, lb, ld, lm);
+    }
+    s.links
+}

@@ -1,0 +1,53 @@
+// The join of two masters, by a chain of nearest neighbours.
+mod chain;
+mod nearest;
+mod order;
+mod rows;
+
+ghost use Rattle.matching.specs.Definitions.Columns.{nodesOf};
+ghost use Rattle.join.specs.Contract.{Fit, Room, Joined};
+
+// Writes the links of the join in pair order and gives their number. Each master comes as numbers, positions and capacities.
+pub fn join(
+    an: &[u32],
+    ax: &[i16],
+    ay: &[i16],
+    ac: &[u32],
+    bn: &[u32],
+    bx: &[i16],
+    by: &[i16],
+    bc: &[u32],
+    la: &mut [u32],
+    lb: &mut [u32],
+    ld: &mut [u32],
+    lm: &mut [u32],
+) -> usize
+    requires { ⌜ Fit (now an) (now ax) (now ay) (now ac) ⌝ }
+    requires { ⌜ Fit (now bn) (now bx) (now by) (now bc) ⌝ }
+    requires { ⌜ Room (now la) (now lb) (now ld) (now lm) ⌝ }
+    ensures { λ r. ⌜ Joined (nodesOf (now (an .entry)) (now (ax .entry)) (now (ay .entry)) (now (ac .entry))) (nodesOf (now (bn .entry)) (now (bx .entry)) (now (by .entry)) (now (bc .entry))) (now (la .exit)) (now (lb .exit)) (now (ld .exit)) (now (lm .exit)) r ⌝ }
+{
+    let mut ns = [0u32; 1024];
+    let mut xs = [0i16; 1024];
+    let mut ys = [0i16; 1024];
+    let mut left = [0u32; 1024];
+    let mut chain = [0usize; 1025];
+    let split = an.len();
+    let size = split + bn.len();
+    rows::load(an, ax, ay, ac, 0, &mut ns, &mut xs, &mut ys, &mut left);
+    rows::load(bn, bx, by, bc, split, &mut ns, &mut xs, &mut ys, &mut left);
+    let n = chain::pick(
+        split,
+        &ns[..size],
+        &xs[..size],
+        &ys[..size],
+        &mut left[..size],
+        &mut chain,
+        la,
+        lb,
+        ld,
+        lm,
+    );
+    order::arrange(la, lb, ld, lm, n);
+    n
+}
