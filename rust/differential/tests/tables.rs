@@ -20,7 +20,12 @@ fn expected(table: &[u8]) -> Reading {
 }
 
 fn compare(table: &[u8], seed: u64, what: &str) {
-    assert_eq!(read_table(table), expected(table), "seed {seed:#x}, {what}: {}", hex(table));
+    assert_eq!(
+        read_table(table),
+        expected(table),
+        "seed {seed:#x}, {what}: {}",
+        hex(table)
+    );
 }
 
 #[test]
@@ -49,7 +54,12 @@ fn damaged_tables() {
         for (kind, fault) in TABLE_FAULTS.into_iter().enumerate() {
             let mut damaged = table.clone();
             if let Some(row) = damage_table(&mut random, &mut damaged, fault) {
-                assert_eq!(read_table(&damaged), Reading::Fault(row), "seed {seed:#x}: {}", hex(&damaged));
+                assert_eq!(
+                    read_table(&damaged),
+                    Reading::Fault(row),
+                    "seed {seed:#x}: {}",
+                    hex(&damaged)
+                );
                 met[kind] += 1;
             }
         }

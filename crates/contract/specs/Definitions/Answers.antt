@@ -31,7 +31,7 @@ valueOf BadField = 0
 valueOf BadNumber = 0
 valueOf TableFull = 0
 
--- Both in one 32-bit number.
+-- Both as one 32-bit number.
 abbrev pub valueEnd : ℕ
 valueEnd = 65536
 

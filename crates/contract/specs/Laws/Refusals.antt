@@ -82,6 +82,9 @@ module _ (q : Request) (a b l : List ℕ) where
   unfolding call
   call-refused r e = rw e
 
+  pub wrong-call : lengthsRight (lengthsOf a b l) q ≡ false → call q a b l ≡ outcome WrongLength a b l (others q)
+  wrong-call e = call-refused WrongLength (wrong-lengths (lengthsOf a b l) q a b l e)
+
   pub call-done : refusal (lengthsOf a b l) q a b l ≡ none → call q a b l ≡ done q a b l
   unfolding call
   call-done e = rw e

@@ -1,0 +1,3 @@
+-- What the calls share, in their own words.
+pub mod Found
+pub mod Laws

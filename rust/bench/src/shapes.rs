@@ -1,0 +1,169 @@
+//! The eight families of drawings that are timed.
+
+use model::buffers::table_of;
+use model::generate::drawing::Capacities;
+use model::generate::places::{anywhere, near, places, Family, Place};
+use model::generate::random::Random;
+use model::rows::Node;
+use model::sizes::{NUMBER_MAX, POSITION_MIN, TABLE_ROWS};
+
+#[derive(Clone, Copy, Debug, PartialEq, Eq)]
+pub enum Shape {
+    /// Spread over the whole field.
+    Uniform,
+    /// Eight steps across and eight up, so that most distances are tied.
+    SmallGrid,
+    /// The light in a tight cluster, the bold on a line far from it.
+    ClusterAndLine,
+    /// A glyph's outline with its counter, the bold shifted and thickened.
+    Outline,
+    /// Light and bold by turns along a line whose gaps shrink: one long chain.
+    ShrinkingGaps,
+    /// Light and bold by turns along a line, all neighbours tied.
+    EqualGaps,
+    /// All nodes at one point.
+    OnePoint,
+    /// Two clusters in opposite corners, most of the light in one, of the bold
+    /// in the other.
+    TwoClusters,
+}
+
+pub const SHAPES: [Shape; 8] = [
+    Shape::Uniform,
+    Shape::SmallGrid,
+    Shape::ClusterAndLine,
+    Shape::Outline,
+    Shape::ShrinkingGaps,
+    Shape::EqualGaps,
+    Shape::OnePoint,
+    Shape::TwoClusters,
+];
+
+impl Shape {
+    pub fn name(self) -> &'static str {
+        match self {
+            Shape::Uniform => "uniform",
+            Shape::SmallGrid => "small grid",
+            Shape::ClusterAndLine => "tight cluster, far line",
+            Shape::Outline => "outline",
+            Shape::ShrinkingGaps => "line, shrinking gaps",
+            Shape::EqualGaps => "line, equal gaps",
+            Shape::OnePoint => "one point",
+            Shape::TwoClusters => "two far clusters",
+        }
+    }
+
+    /// Places of so many nodes of A and as many of B.
+    fn places(self, random: &mut Random, count: usize) -> (Vec<Place>, Vec<Place>) {
+        let grid = |random: &mut Random| (random.signed(0, 7) * 100, random.signed(0, 7) * 100);
+        match self {
+            Shape::Uniform => (
+                each(count, || anywhere(random)),
+                each(count, || anywhere(random)),
+            ),
+            Shape::SmallGrid => (each(count, || grid(random)), each(count, || grid(random))),
+            Shape::ClusterAndLine => (
+                each(count, || near(random, (-12_000, -500), 10)),
+                (0..count as i64).map(|n| (12_000, 30 * n)).collect(),
+            ),
+            Shape::Outline => places(random, Family::Outline, count, count),
+            Shape::ShrinkingGaps => by_turns(&shrinking_line(2 * count)),
+            Shape::EqualGaps => by_turns(&equal_line(2 * count)),
+            Shape::OnePoint => (vec![(321, -123); count], vec![(321, -123); count]),
+            Shape::TwoClusters => (
+                each(count, || in_corner(random, 1)),
+                each(count, || in_corner(random, -1)),
+            ),
+        }
+    }
+}
+
+fn each(count: usize, place: impl FnMut() -> Place) -> Vec<Place> {
+    std::iter::repeat_with(place).take(count).collect()
+}
+
+/// A place near a corner of the field, three times in four this one.
+fn in_corner(random: &mut Random, corner: i64) -> Place {
+    let corner = if random.once_in(4) { -corner } else { corner };
+    near(random, (corner * 15_000, corner * 15_000), 200)
+}
+
+fn by_turns(line: &[Place]) -> (Vec<Place>, Vec<Place>) {
+    let a = line.iter().step_by(2).copied().collect();
+    let b = line.iter().skip(1).step_by(2).copied().collect();
+    (a, b)
+}
+
+fn equal_line(count: usize) -> Vec<Place> {
+    (0..count as i64)
+        .map(|n| (POSITION_MIN + 32 * n, 0))
+        .collect()
+}
+
+/// Gaps from 62 down to 1, each equally often: as long as the field allows two full tables.
+fn shrinking_line(count: usize) -> Vec<Place> {
+    let greatest = 62;
+    let mut across = POSITION_MIN;
+    let gap = |n: usize| greatest - (n * greatest as usize / count) as i64;
+    (0..count)
+        .map(|n| {
+            let place = (across, 0);
+            across += gap(n);
+            place
+        })
+        .collect()
+}
+
+#[derive(Clone, Debug)]
+pub struct Drawing {
+    pub a: Vec<Node>,
+    pub b: Vec<Node>,
+}
+
+impl Drawing {
+    /// A drawing of so many nodes in each master.
+    pub fn new(random: &mut Random, shape: Shape, count: usize, capacities: Capacities) -> Drawing {
+        let (a, b) = shape.places(random, count);
+        let mut master = |places: &[Place]| master(random, shape, places, capacities);
+        Drawing {
+            a: master(&a),
+            b: master(&b),
+        }
+    }
+
+    pub fn tables(&self) -> (Vec<u8>, Vec<u8>) {
+        (table_of(&self.a), table_of(&self.b))
+    }
+}
+
+fn master(
+    random: &mut Random,
+    shape: Shape,
+    places: &[Place],
+    capacities: Capacities,
+) -> Vec<Node> {
+    let mut numbers = numbers(random, places.len());
+    if shape == Shape::ShrinkingGaps {
+        // Equal gaps then draw the chain on, towards the lesser number.
+        numbers.reverse();
+    } else {
+        random.shuffle(&mut numbers);
+    }
+    let node = |(place, number): (&Place, u64)| Node {
+        number,
+        horizontal: place.0,
+        vertical: place.1,
+        capacity: capacities.capacity(random),
+    };
+    let mut nodes: Vec<Node> = places.iter().zip(numbers).map(node).collect();
+    // The first row stays, so that the line of shrinking gaps is entered at its end.
+    random.shuffle(&mut nodes[1..]);
+    nodes
+}
+
+/// So many unlike numbers from the whole range, rising.
+fn numbers(random: &mut Random, count: usize) -> Vec<u64> {
+    let step = NUMBER_MAX / TABLE_ROWS as u64;
+    let number = |n: u64| n * step - random.below(step);
+    (1..=count as u64).map(number).collect()
+}
