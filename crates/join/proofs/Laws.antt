@@ -1,8 +1,10 @@
 -- Laws that the functions' proofs cite.
 pub mod Pairs
 pub mod Rest
+pub mod Live
 pub mod Nearest
 pub mod Chain
+pub mod Decide
 pub mod Step
 pub mod Order
 pub mod Load

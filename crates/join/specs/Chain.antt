@@ -1,9 +1,11 @@
 -- The chain of nearest neighbours, and the picks made along it.
 use Prim.Native.Nat.{ℕ, _+_, _*_, _-_, _<_, _≤_, min}
 use mathlib.Core.Path.{_≡_}
-use mathlib.Core.Bool.{Bool, true, false}
+use mathlib.Core.Bool.{Bool, true, false, cond}
 use mathlib.Core.List.{List, []}
+use lib.Dec.{ltb}
 use lib.ListN.{length, getD, set}
+use Rattle.matching.specs.Definitions.Nodes.{Master, each}
 use Rattle.matching.specs.Definitions.Pairs.{Before}
 use Rattle.matching.specs.Definitions.Links.{Link}
 use Rattle.matching.specs.Definitions.Columns.{linksOf}
@@ -12,6 +14,7 @@ use Rattle.join.specs.declared.chain.Move.{Move}
 use Rattle.join.specs.declared.chain.Move.the-variants.{Stop, Push, Take}
 use Rattle.join.specs.declared.chain.State.{State}
 use Rattle.join.specs.Rows.{Rows, size, gap, Faces, between, rest, Sound}
+use Rattle.join.specs.Live.{Live}
 use Rattle.join.specs.Contract.{Room}
 use Rattle.join.specs.Nearest.{Nearest, Chosen}
 use Rattle.join.specs.Order.{Table, linksIn, stored}
@@ -52,6 +55,10 @@ module _ (R : Rows) (left chain : List ℕ) (n : ℕ) where
   Decided (Push w) = Pushed w
   Decided (Take i j d) = Mutually i j d × (i < R .split)
 
+-- The pair of two rows, A's first.
+unfoldable pub sides : ℕ → ℕ → ℕ → ℕ → Move
+sides t w d split = cond (ltb t split) (Take t w d) (Take w t d)
+
 -- Of a chain of n rows r are kept: not the top, and the row below it only where it has something left.
 pub record Trimmed (left chain : List ℕ) (n r : ℕ) : Type 0 where
   pub less : r < n
@@ -62,6 +69,7 @@ pub record Taken (ns left : List ℕ) (i j d n : ℕ) (L : Table) (left' : List 
   pub lefts : left' ≡ set (set left i (getD left i 0 - min (getD left i 0) (getD left j 0))) j (getD left j 0 - min (getD left i 0) (getD left j 0))
   pub links : L' ≡ stored L n (record { a = getD ns i 0; b = getD ns j 0; distance = d; amount = min (getD left i 0) (getD left j 0) })
 
+-- 1 for true.
 abbrev pub bit : Bool → ℕ
 bit true = 1
 bit false = 0
@@ -72,22 +80,28 @@ module _ (R : Rows) where
   unfolding rest linksOf puts
   whole left L n = puts (linksIn L n) (rest R left)
 
-  -- The state of a run.
-  pub record Good (left chain : List ℕ) (L : Table) (s : State) : Type 0 where
+  -- The rows, the lists of those that have something left, and the chain.
+  pub record Ready (left live chain : List ℕ) (s : State) : Type 0 where
     pub sound : Sound R left
+    pub len-live : length live ≡ size R
+    pub lists : (m : Master) → Live R left live m (each (s .a) (s .b) m)
     pub path : Chain R left chain (s .depth)
+
+  -- The state of a run.
+  pub record Good (left live chain : List ℕ) (L : Table) (s : State) : Type 0 where
+    pub ready : Ready left live chain s
     pub room : Room (L .la) (L .lb) (L .ld) (L .lm)
     pub count : s .links + length (rest R left) ≤ 1023
 
   -- What falls with each step: the links to come, then the room on the chain.
-  abbrev pub measure : List ℕ → State → ℕ
-  measure left s = length (rest R left) * 2048 + (1025 - s .depth) + bit (s .more)
+  abbrev pub toGo : List ℕ → State → ℕ
+  toGo left s = length (rest R left) * 2048 + (1025 - s .depth) + bit (s .more)
 
   -- What a step does.
-  pub record Stepped (left chain : List ℕ) (L : Table) (s : State) (left' chain' : List ℕ) (L' : Table) (r : State) : Type 0 where
-    pub good : Good left' chain' L' r
+  pub record Stepped (left : List ℕ) (L : Table) (s : State) (left' live' chain' : List ℕ) (L' : Table) (r : State) : Type 0 where
+    pub good : Good left' live' chain' L' r
     pub same : whole left' L' (r .links) ≡ whole left L (s .links)
-    pub falls : measure left' r < measure left s
+    pub falls : toGo left' r < toGo left s
     pub ends : r .more ≡ false → rest R left' ≡ []
 
   -- All pairs are taken: the n links written, each put in at its place, are those that were to be taken.

@@ -12,7 +12,8 @@ use Rattle.join.specs.Rows.{Columns}
 -- At most 512 nodes, no two with the same number, every position inside.
 pub record Fit (ns : List ℕ) (xs ys : List ℤ) (cs : List ℕ) : Type 0 where
   pub most : length ns ≤ 512
-  pub columns : Columns ns xs ys cs
+  pub columns : Columns ns xs ys
+  pub len-c : length cs ≡ length ns
   pub unique : Unique (nodesOf ns xs ys cs)
 
 -- The link columns have room for every join.

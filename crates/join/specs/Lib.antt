@@ -1,6 +1,7 @@
 -- What the contracts of this crate cite. A caller needs Contract alone.
 pub mod Rows
 pub mod Contract
+pub mod Live
 pub mod Nearest
 pub mod Order
 pub mod Chain

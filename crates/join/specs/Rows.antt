@@ -12,11 +12,10 @@ use Rattle.matching.specs.Definitions.Links.{Link}
 use Rattle.matching.specs.Definitions.Join.{join}
 use Rattle.matching.specs.Definitions.Columns.{tabulate, nodeAt, Inside}
 
--- Four columns of one length, with every position inside.
-pub record Columns (ns : List ℕ) (xs ys : List ℤ) (cs : List ℕ) : Type 0 where
+-- Columns of numbers and positions, of one length, with every position inside.
+pub record Columns (ns : List ℕ) (xs ys : List ℤ) : Type 0 where
   pub len-x : length xs ≡ length ns
   pub len-y : length ys ≡ length ns
-  pub len-c : length cs ≡ length ns
   pub inside : (k : ℕ) → k < length ns → Inside (getD xs k (pos 0)) (getD ys k (pos 0))
 
 -- Row k has a position, and it is inside.
@@ -32,6 +31,7 @@ pub record Rows : Type 0 where
   pub ys : List ℤ
   pub split : ℕ
 
+-- The same from its parts.
 abbrev pub rows : List ℕ → List ℤ → List ℤ → ℕ → Rows
 rows ns xs ys split = record { ns = ns; xs = xs; ys = ys; split = split }
 
@@ -39,18 +39,21 @@ rows ns xs ys split = record { ns = ns; xs = xs; ys = ys; split = split }
 unfoldable pub gap : List ℤ → List ℤ → ℕ → ℕ → ℕ
 gap xs ys i j = squaredDistance (getD xs i (pos 0)) (getD ys i (pos 0)) (getD xs j (pos 0)) (getD ys j (pos 0))
 
+-- The other master.
 abbrev pub other : Master → Master
 other masterA = masterB
 other masterB = masterA
 
 module _ (R : Rows) where
+  -- How many rows there are.
   abbrev pub size : ℕ
   size = length (R .ns)
 
-  -- A master's rows: from its first on, to past its last.
+  -- A master's first row,
   abbrev pub from : Master → ℕ
   from = each 0 (R .split)
 
+  -- and the one past its last.
   abbrev pub to : Master → ℕ
   to = each (R .split) size
 
@@ -81,12 +84,29 @@ module _ (R : Rows) where
 
   -- What every step may rely on: no two rows of a master have the same number.
   pub record Sound (left : List ℕ) : Type 0 where
-    pub columns : Columns (R .ns) (R .xs) (R .ys) left
+    pub columns : Columns (R .ns) (R .xs) (R .ys)
+    pub len-c : length left ≡ size
     pub parts : R .split ≤ size
     pub most : size ≤ 1024
     pub distinct : (s : Master) (i k : ℕ) → On s i → On s k → getD (R .ns) i 0 ≡ getD (R .ns) k 0 → i ≡ k
 
--- A master's columns stand in the rows from at on; what stood before them is as it was.
-pub record Loaded (an : List ℕ) (ax ay : List ℤ) (ac : List ℕ) (at : ℕ) (ns : List ℕ) (xs ys : List ℤ) (left ns' : List ℕ) (xs' ys' : List ℤ) (left' : List ℕ) : Type 0 where
+-- The table and its list have 1,024 rows.
+pub record Full (ns : List ℕ) (xs ys : List ℤ) (left live : List ℕ) : Type 0 where
+  pub in-n : length ns ≡ 1024
+  pub in-x : length xs ≡ 1024
+  pub in-y : length ys ≡ 1024
+  pub in-left : length left ≡ 1024
+  pub in-live : length live ≡ 1024
+
+-- A master's columns stand in the rows from at on, and these rows are listed; what stood before them is as it was.
+pub record Loaded (an : List ℕ) (ax ay : List ℤ) (ac : List ℕ) (at : ℕ) (ns : List ℕ) (xs ys : List ℤ) (left live ns' : List ℕ) (xs' ys' : List ℤ) (left' live' : List ℕ) : Type 0 where
   pub here : (k : ℕ) → k < length an → nodeAt ns' xs' ys' left' (at + k) ≡ nodeAt an ax ay ac k
   pub ahead : (k : ℕ) → k < at → nodeAt ns' xs' ys' left' k ≡ nodeAt ns xs ys left k
+  pub lists : (k : ℕ) → k < length an → getD live' (at + k) 0 ≡ at + k
+  pub before : (k : ℕ) → k < at → getD live' k 0 ≡ getD live k 0
+
+-- Both masters' columns stand in the rows, A's first, and each row is listed in its own place.
+pub record Filled (an : List ℕ) (ax ay : List ℤ) (ac bn : List ℕ) (bx by : List ℤ) (bc ns : List ℕ) (xs ys : List ℤ) (left live : List ℕ) : Type 0 where
+  pub row-a : (k : ℕ) → k < length an → nodeAt ns xs ys left k ≡ nodeAt an ax ay ac k
+  pub row-b : (k : ℕ) → k < length bn → nodeAt ns xs ys left (length an + k) ≡ nodeAt bn bx by bc k
+  pub own : (k : ℕ) → k < length an + length bn → getD live k 0 ≡ k

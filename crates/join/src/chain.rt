@@ -1,6 +1,7 @@
 // The chain of nearest neighbours: each row on it has the next as its nearest; where two rows are each other's, their pair is taken.
 use crate::nearest;
 use crate::order;
+use crate::rows;
 ghost use mathlib.Core.Path.{_≡_};
 ghost use mathlib.Core.Bool.{true};
 ghost use Prim.Native.Nat.{ℕ, _+_, _<_, _≤_, min};
@@ -8,7 +9,7 @@ ghost use lib.ListN.{length, getD};
 ghost use Rattle.join.specs.Contract.{Room};
 ghost use Rattle.join.specs.Rows.{rows, Sound};
 ghost use Rattle.join.specs.Order.{table, Has};
-ghost use Rattle.join.specs.Chain.{Chain, Mutually, Decided, Trimmed, Taken, Good, Stepped, Picked};
+ghost use Rattle.join.specs.Chain.{sides, Ready, Decided, Trimmed, Taken, Good, Stepped, Picked};
 
 // What to do next: stop, push a row, or take the pair of A's row and B's row at a distance.
 pub enum Move {
@@ -17,43 +18,18 @@ pub enum Move {
     Take(usize, usize, u32),
 }
 
-// How many rows stand on the chain, how many links are written, and whether there may be more.
+// How many rows stand on the chain, how many links are written, where the lists of A's and B's rows end, and whether there may be more.
 pub struct State {
     pub depth: usize,
     pub links: usize,
+    pub a: usize,
+    pub b: usize,
     pub more: bool,
 }
 
-// A new chain begins with the first of A's rows that has something left.
-fn start(split: usize, chain: &[usize], ns: &[u32], xs: &[i16], ys: &[i16], left: &[u32]) -> Move
-    requires { ⌜ Sound (rows (now ns) (now xs) (now ys) split) (now left) ⌝ }
-    ensures { λ r. ⌜ Decided (rows (now (ns .entry)) (now (xs .entry)) (now (ys .entry)) split) (now (left .entry)) (now (chain .entry)) 0 r ⌝ }
-{
-    let mut i = 0;
-    while i < split {
-        if left[i] != 0 {
-            return Move::Push(i);
-        }
-        i += 1;
-    }
-    Move::Stop
-}
-
-// Rows t and w are each other's nearest: which of them is A's.
-fn sided(
-    t: usize,
-    w: usize,
-    d: u32,
-    depth: usize,
-    split: usize,
-    chain: &[usize],
-    ns: &[u32],
-    xs: &[i16],
-    ys: &[i16],
-    left: &[u32],
-) -> Move
-    requires { ⌜ Mutually (rows (now ns) (now xs) (now ys) split) (now left) (now chain) depth t w d ⌝ }
-    ensures { λ r. ⌜ Decided (rows (now (ns .entry)) (now (xs .entry)) (now (ys .entry)) split) (now (left .entry)) (now (chain .entry)) depth r ⌝ }
+// The pair of rows t and w is taken: which of them is A's.
+fn sided(t: usize, w: usize, d: u32, split: usize) -> Move
+    ensures { λ r. ⌜ r ≡ sides t w d split ⌝ }
 {
     if t < split {
         return Move::Take(t, w, d);
@@ -61,37 +37,44 @@ fn sided(
     Move::Take(w, t, d)
 }
 
-// The top's nearest row is pushed, unless it is the row below the top.
+// The top's nearest row is pushed, unless it is the row below the top: then their pair is taken. (`left` serves the contract alone.)
 fn decide(
-    depth: usize,
+    s: State,
     split: usize,
+    live: &[usize],
     chain: &[usize],
     ns: &[u32],
     xs: &[i16],
     ys: &[i16],
     left: &[u32],
 ) -> Move
-    requires { ⌜ Sound (rows (now ns) (now xs) (now ys) split) (now left) × Chain (rows (now ns) (now xs) (now ys) split) (now left) (now chain) depth ⌝ }
-    ensures { λ r. ⌜ Decided (rows (now (ns .entry)) (now (xs .entry)) (now (ys .entry)) split) (now (left .entry)) (now (chain .entry)) depth r ⌝ }
+    requires { ⌜ Ready (rows (now ns) (now xs) (now ys) split) (now left) (now live) (now chain) s ⌝ }
+    ensures { λ r. ⌜ Decided (rows (now (ns .entry)) (now (xs .entry)) (now (ys .entry)) split) (now (left .entry)) (now (chain .entry)) (s .depth) r ⌝ }
 {
-    if depth == 0 {
-        return start(split, chain, ns, xs, ys, left);
-    }
-    let t = chain[depth - 1];
-    let w = nearest::partner(t, split, ns, xs, ys, left);
-    let d = w.d;
-    if d == 4294967295 {
+    let depth = s.depth;
+    let a = s.a;
+    let b = s.b;
+    if a == 0 {
         return Move::Stop;
     }
+    if b == split {
+        return Move::Stop;
+    }
+    if depth == 0 {
+        return Move::Push(live[0]);
+    }
+    let t = chain[depth - 1];
+    let w = nearest::partner(t, split, a, b, live, ns, xs, ys);
     let at = w.at;
     if depth > 1 {
         if chain[depth - 2] == at {
-            return sided(t, at, d, depth, split, chain, ns, xs, ys, left);
+            return sided(t, at, w.d, split);
         }
     }
     Move::Push(at)
 }
 
+// The lesser of two numbers.
 fn lesser(x: u32, y: u32) -> u32
     ensures { λ r. ⌜ r ≡ min x y ⌝ }
 {
@@ -135,6 +118,7 @@ fn trim(depth: usize, chain: &[usize], left: &[u32]) -> usize
     depth - 1
 }
 
+// Pushes a row or takes a pair.
 fn step(
     s: State,
     split: usize,
@@ -142,50 +126,47 @@ fn step(
     xs: &[i16],
     ys: &[i16],
     left: &mut [u32],
+    live: &mut [usize],
     chain: &mut [usize],
     la: &mut [u32],
     lb: &mut [u32],
     ld: &mut [u32],
     lm: &mut [u32],
 ) -> State
-    requires { ⌜ Good (rows (now ns) (now xs) (now ys) split) (now left) (now chain) (table (now la) (now lb) (now ld) (now lm)) s × (s .more ≡ true) ⌝ }
-    ensures { λ r. ⌜ Stepped (rows (now (ns .entry)) (now (xs .entry)) (now (ys .entry)) split) (now (left .entry)) (now (chain .entry)) (table (now (la .entry)) (now (lb .entry)) (now (ld .entry)) (now (lm .entry))) s (now (left .exit)) (now (chain .exit)) (table (now (la .exit)) (now (lb .exit)) (now (ld .exit)) (now (lm .exit))) r ⌝ }
+    requires { ⌜ Good (rows (now ns) (now xs) (now ys) split) (now left) (now live) (now chain) (table (now la) (now lb) (now ld) (now lm)) s × (s .more ≡ true) ⌝ }
+    ensures { λ r. ⌜ Stepped (rows (now (ns .entry)) (now (xs .entry)) (now (ys .entry)) split) (now (left .entry)) (table (now (la .entry)) (now (lb .entry)) (now (ld .entry)) (now (lm .entry))) s (now (left .exit)) (now (live .exit)) (now (chain .exit)) (table (now (la .exit)) (now (lb .exit)) (now (ld .exit)) (now (lm .exit))) r ⌝ }
 {
     let depth = s.depth;
     let n = s.links;
-    let m = decide(depth, split, chain, ns, xs, ys, left);
+    let m = decide(s, split, live, chain, ns, xs, ys, left);
+    let mut r = s;
     match m {
-        Move::Stop => State {
-            depth: depth,
-            links: n,
-            more: false,
+        Move::Stop => {
+            r.more = false;
         },
         Move::Push(w) => {
             chain[depth] = w;
-            State {
-                depth: depth + 1,
-                links: n,
-                more: true,
-            }
+            r.depth = depth + 1;
         },
         Move::Take(i, j, d) => {
             take(i, j, d, n, ns, left, la, lb, ld, lm);
-            State {
-                depth: trim(depth, chain, left),
-                links: n + 1,
-                more: true,
-            }
+            r.depth = trim(depth, chain, left);
+            r.links = n + 1;
+            r.a = rows::refresh(i, 0, s.a, left, live);
+            r.b = rows::refresh(j, split, s.b, left, live);
         },
     }
+    r
 }
 
-// Takes pairs until none is left; gives the number of links, which are in the order of the picks.
+// Takes pairs until none is left; gives the number of links, which stand in the order of the picks.
 pub fn pick(
     split: usize,
     ns: &[u32],
     xs: &[i16],
     ys: &[i16],
     left: &mut [u32],
+    live: &mut [usize],
     chain: &mut [usize],
     la: &mut [u32],
     lb: &mut [u32],
@@ -193,15 +174,20 @@ pub fn pick(
     lm: &mut [u32],
 ) -> usize
     requires { ⌜ Sound (rows (now ns) (now xs) (now ys) split) (now left) × (length (now chain) ≡ 1025) × Room (now la) (now lb) (now ld) (now lm) ⌝ }
+    requires { ⌜ (length (now live) ≡ length (now ns)) × ((k : ℕ) → k < length (now ns) → getD (now live) k 0 ≡ k) ⌝ }
     ensures { λ r. ⌜ Picked (rows (now (ns .entry)) (now (xs .entry)) (now (ys .entry)) split) (now (left .entry)) (table (now (la .exit)) (now (lb .exit)) (now (ld .exit)) (now (lm .exit))) r ⌝ }
 {
+    let a = rows::keep(0, split, left, live);
+    let b = rows::keep(split, ns.len(), left, live);
     let mut s = State {
         depth: 0,
         links: 0,
+        a: a,
+        b: b,
         more: true,
     };
     while s.more {
-        s = step(s, split, ns, xs, ys, left, chain, la, lb, ld, lm);
+        s = step(s, split, ns, xs, ys, left, live, chain, la, lb, ld, lm);
     }
     s.links
 }

@@ -31,17 +31,31 @@ pub fn join(
     let mut xs = [0i16; 1024];
     let mut ys = [0i16; 1024];
     let mut left = [0u32; 1024];
+    let mut live = [0usize; 1024];
     let mut chain = [0usize; 1025];
-    let split = an.len();
-    let size = split + bn.len();
-    rows::load(an, ax, ay, ac, 0, &mut ns, &mut xs, &mut ys, &mut left);
-    rows::load(bn, bx, by, bc, split, &mut ns, &mut xs, &mut ys, &mut left);
+    rows::fill(
+        an,
+        ax,
+        ay,
+        ac,
+        bn,
+        bx,
+        by,
+        bc,
+        &mut ns,
+        &mut xs,
+        &mut ys,
+        &mut left,
+        &mut live,
+    );
+    let size = an.len() + bn.len();
     let n = chain::pick(
-        split,
+        an.len(),
         &ns[..size],
         &xs[..size],
         &ys[..size],
         &mut left[..size],
+        &mut live[..size],
         &mut chain,
         la,
         lb,

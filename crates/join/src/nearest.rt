@@ -1,11 +1,11 @@
-// The row nearest to a row on the other side, by one scan.
+// The row nearest to a row among the other master's rows, by one scan.
 ghost use mathlib.Core.Path.{_≡_};
-ghost use Prim.Native.Nat.{ℕ, _+_, _<_, _≤_};
+ghost use Prim.Native.Nat.{_<_};
 ghost use lib.ListN.{length};
-ghost use Rattle.join.specs.Rows.{Columns, Placed, rows, gap, Sound};
-ghost use Rattle.join.specs.Nearest.{Seen, Partner};
+ghost use Rattle.join.specs.Rows.{Columns, Placed, gap};
+ghost use Rattle.join.specs.Nearest.{near, nearer, Listing, Seen, Partner};
 
-// A row, its number and how far it is; none where d is the largest u32.
+// A row, its number and its squared distance.
 pub struct Near {
     pub d: u32,
     pub n: u32,
@@ -20,65 +20,68 @@ fn apart(t: usize, j: usize, xs: &[i16], ys: &[i16]) -> u32
     matching::squared_distance(xs[t], ys[t], xs[j], ys[j])
 }
 
-// The nearest so far, s, or row j where that has something left and comes before it.
-fn consider(
-    s: Near,
-    t: usize,
-    first: usize,
-    j: usize,
-    ns: &[u32],
-    xs: &[i16],
-    ys: &[i16],
-    left: &[u32],
-) -> Near
-    requires { ⌜ Columns (now ns) (now xs) (now ys) (now left) × (t < length (now ns)) × (j < length (now ns)) × (first ≤ j) ⌝ }
-    requires { ⌜ Seen (now ns) (now xs) (now ys) (now left) t first j s ⌝ }
-    ensures { λ r. ⌜ Seen (now (ns .entry)) (now (xs .entry)) (now (ys .entry)) (now (left .entry)) t first (j + 1) r ⌝ }
+// Row j as seen from row t.
+fn measure(t: usize, j: usize, ns: &[u32], xs: &[i16], ys: &[i16]) -> Near
+    requires { ⌜ Columns (now ns) (now xs) (now ys) × (t < length (now ns)) × (j < length (now ns)) ⌝ }
+    ensures { λ r. ⌜ r ≡ near (now (ns .entry)) (now (xs .entry)) (now (ys .entry)) t j ⌝ }
 {
-    if left[j] == 0 {
-        return s;
+    Near {
+        d: apart(t, j, xs, ys),
+        n: ns[j],
+        at: j,
     }
-    let d = apart(t, j, xs, ys);
-    let n = ns[j];
-    if matching::is_earlier(d, n, 0, s.d, s.n, 0) {
-        return Near { d: d, n: n, at: j };
+}
+
+// The nearest so far, s, or row j where that comes before it: by distance, then by number.
+fn closer(s: Near, t: usize, j: usize, ns: &[u32], xs: &[i16], ys: &[i16]) -> Near
+    requires { ⌜ Columns (now ns) (now xs) (now ys) × (t < length (now ns)) × (j < length (now ns)) ⌝ }
+    ensures { λ r. ⌜ r ≡ nearer s (near (now (ns .entry)) (now (xs .entry)) (now (ys .entry)) t j) ⌝ }
+{
+    let c = measure(t, j, ns, xs, ys);
+    if matching::is_earlier(c.d, c.n, 0, s.d, s.n, 0) {
+        return c;
     }
     s
 }
 
-// The nearest to row t among the rows from first to end.
+// The nearest to row t of the rows that are listed from place first to place end.
 fn search(
     t: usize,
     first: usize,
     end: usize,
+    live: &[usize],
     ns: &[u32],
     xs: &[i16],
     ys: &[i16],
-    left: &[u32],
 ) -> Near
-    requires { ⌜ Columns (now ns) (now xs) (now ys) (now left) × (t < length (now ns)) × (first ≤ end) × (end ≤ length (now ns)) ⌝ }
-    ensures { λ r. ⌜ Seen (now (ns .entry)) (now (xs .entry)) (now (ys .entry)) (now (left .entry)) t first end r ⌝ }
+    requires { ⌜ Columns (now ns) (now xs) (now ys) × (t < length (now ns)) × Listing (now ns) (now live) first end ⌝ }
+    ensures { λ r. ⌜ Seen (now (ns .entry)) (now (xs .entry)) (now (ys .entry)) (now (live .entry)) t first end r ⌝ }
 {
-    let mut s = Near {
-        d: 4294967295,
-        n: 0,
-        at: 0,
-    };
-    let mut j = first;
-    while j < end {
-        s = consider(s, t, first, j, ns, xs, ys, left);
-        j += 1;
+    let mut s = measure(t, live[first], ns, xs, ys);
+    let mut k = first + 1;
+    while k < end {
+        s = closer(s, t, live[k], ns, xs, ys);
+        k += 1;
     }
     s
 }
 
-// The nearest to row t among the rows of the other master.
-pub fn partner(t: usize, split: usize, ns: &[u32], xs: &[i16], ys: &[i16], left: &[u32]) -> Near
-    requires { ⌜ Sound (rows (now ns) (now xs) (now ys) split) (now left) × (t < length (now ns)) ⌝ }
-    ensures { λ r. ⌜ Partner (rows (now (ns .entry)) (now (xs .entry)) (now (ys .entry)) split) (now (left .entry)) t r ⌝ }
+// The nearest to row t of the other master's rows that are listed: A's from 0 to a, B's from split to b.
+pub fn partner(
+    t: usize,
+    split: usize,
+    a: usize,
+    b: usize,
+    live: &[usize],
+    ns: &[u32],
+    xs: &[i16],
+    ys: &[i16],
+) -> Near
+    requires { ⌜ Columns (now ns) (now xs) (now ys) × (t < length (now ns)) × Listing (now ns) (now live) 0 a × Listing (now ns) (now live) split b ⌝ }
+    ensures { λ r. ⌜ Partner (now (ns .entry)) (now (xs .entry)) (now (ys .entry)) (now (live .entry)) split a b t r ⌝ }
 {
     if t < split {
-        return search(t, split, ns.len(), ns, xs, ys, left);
+        return search(t, split, b, live, ns, xs, ys);
     }
-    search(t, 0, split, ns, xs, ys, left)
+    search(t, 0, a, live, ns, xs, ys)
 }

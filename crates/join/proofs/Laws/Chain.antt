@@ -1,24 +1,22 @@
 -- The chain: no row stands on it twice; a row pushed, rows taken. Assumes nothing.
-use Prim.Native.Nat.{ℕ, zero, suc, _+_, _*_, _-_, _<_, _≤_, min}
+use Prim.Native.Nat.{ℕ, zero, suc, _+_, _-_, _<_, _≤_}
 use mathlib.Core.Path.{_≡_, refl, sym, _∙_, ap, subst}
-use mathlib.Core.Bool.{true, false, cond}
-use mathlib.Core.List.{List, []}
+use mathlib.Core.Bool.{cond}
+use mathlib.Core.List.{List}
 use native.Mathlib.Decide.{ℕ-discrete, decLt}
 use native.Mathlib.Omega.{arith}
-use lib.Dec.{eqb}
+use lib.Dec.{eqb, ltb}
 use lib.ListN.{length, getD, set, length-set}
 use lib.Seq.{getD-set-same, getD-set-other}
-use borrow.Author.Tests.{eq-eqb, ne-eqb}
-use Rattle.matching.specs.Definitions.Nodes.{Master, masterA, masterB}
+use borrow.Author.Tests.{eq-eqb, ne-eqb, lt-ltb, le-ltb}
+use Rattle.matching.specs.Definitions.Nodes.{masterA, masterB}
 use Rattle.matching.specs.Definitions.Pairs.{Pair, Before}
 use Rattle.matching.specs.Laws.Order.{before-trans}
 use Rattle.matching.specs.Laws.Earliest.{Leq, strictly, equally}
-use Rattle.join.specs.declared.nearest.Near.{Near}
-use Rattle.join.specs.declared.chain.Move.{Move}
-use Rattle.join.specs.Rows.{Rows, size, gap, On, Faces, faces, between, rest, Sound}
-use Rattle.join.specs.Nearest.{Nearest, Chosen, Partner}
-use Rattle.join.specs.Chain.{Chain, Pushed, Mutually, Decided, Trimmed}
-use Rattle.join.proofs.Laws.Rest.{rest-none}
+use Rattle.join.specs.declared.chain.Move.the-variants.{Take}
+use Rattle.join.specs.Rows.{Rows, size, gap, Faces, faces, between, Sound}
+use Rattle.join.specs.Nearest.{Nearest, Chosen}
+use Rattle.join.specs.Chain.{Chain, Pushed, Decided, sides, Trimmed}
 use Rattle.join.proofs.Laws.Pairs.{gap-swap, faces-swap, faces-self, between-swap, same-row, not-before}
 
 -- Different numbers below m are at most m.
@@ -78,15 +76,6 @@ module _ (R : Rows) (left chain : List ℕ) (n : ℕ) (c : Chain R left chain n)
 
   pub depth-fits : n ≤ size R
   depth-fits = pigeonhole (size R) n (λ h. getD chain h 0) (c .inside) once
-
--- The same pair from its other row.
-pub mutually-swap : (R : Rows) (left chain : List ℕ) (n t w d : ℕ) → Mutually R left chain n t w d → R .split ≤ t → Mutually R left chain n w t d × (w < R .split)
-mutually-swap R left chain n t w d m l =
-    (record { deep = m .deep; onto-j = m .onto-i; onto-i = m .onto-j; not-i = m .not-j; not-j = m .not-i }, go (m .onto-j .faces))
-  where
-    go : Faces R t w → w < R .split
-    go (faces masterA h g) = absurd (omega arith)
-    go (faces masterB h g) = g .1
 
 -- A list with one element stored.
 set-below : (l : List ℕ) (n w h : ℕ) → h < n → getD (set l n w) h 0 ≡ getD l h 0
@@ -180,48 +169,43 @@ module _ (R : Rows) (left : List ℕ) (v : Sound R left) (chain : List ℕ) (n :
       alive h l (yes e) = omega (arith, same h e, c .alive h (omega (arith, t .less)))
       alive h l (no e) = t .top h l (omega arith)
 
--- What the top's partner decides.
-module _ (R : Rows) (left : List ℕ) (v : Sound R left) (chain : List ℕ) (n : ℕ) (c : Chain R left chain n) (w : Near) (one : 1 ≤ n) (p : Partner R left (getD chain (n - 1) 0) w) where
+-- What the top's nearest row, at, decides.
+module _ (R : Rows) (left : List ℕ) (v : Sound R left) (chain : List ℕ) (n : ℕ) (c : Chain R left chain n) (one : 1 ≤ n) (at d : ℕ) (q : Chosen R left (getD chain (n - 1) 0) at d) where
   abbrev top : ℕ
   top = getD chain (n - 1) 0
 
-  pub stop : w .d ≡ 4294967295 → rest R left ≡ []
-  stop e = rest-none R left v (go (decLt top (R .split)))
+  pub may-push : (2 ≤ n → getD chain (n - 2) 0 ≡ at → ⊥) → Pushed R left chain n at
+  may-push new = record {
+    inside = inside (q .faces);
+    alive = q .alive;
+    next = λ h e. subst (λ (k : ℕ). Chosen R left (getD chain k 0) at (gap (R .xs) (R .ys) (getD chain k 0) at)) (omega arith)
+        (record { faces = q .faces; alive = q .alive; is-d = refl; nearest = q .nearest });
+    new = λ h e d. new (omega arith) (ap (λ (k : ℕ). getD chain k 0) (omega arith) ∙ sym d);
+  }
     where
-      go : Dec (top < R .split) → (i j : ℕ) → On R masterA i → On R masterB j → min (getD left i 0) (getD left j 0) ≡ 0
-      go (yes h) i j hi hj = omega (arith, p .none e j (faces masterA (omega arith, h) hj))
-      go (no h) i j hi hj = omega (arith, p .none e i (faces masterB (omega arith, c .inside (n - 1) (omega arith)) hi))
+      inside : Faces R top at → at < size R
+      inside (faces masterA h g) = g .1
+      inside (faces masterB h g) = omega (arith, v .parts)
 
-  module _ (some : w .d ≡ 4294967295 → ⊥) where
-    q : Chosen R left top (w .at) (w .d)
-    q = p .some some
-
-    pub may-push : (2 ≤ n → getD chain (n - 2) 0 ≡ w .at → ⊥) → Pushed R left chain n (w .at)
-    may-push new = record {
-      inside = inside (q .faces);
-      alive = q .alive;
-      next = λ h e. subst (λ (k : ℕ). Chosen R left (getD chain k 0) (w .at) (gap (R .xs) (R .ys) (getD chain k 0) (w .at))) (omega arith)
-          (record { faces = q .faces; alive = q .alive; is-d = refl; nearest = q .nearest });
-      new = λ h e d. new (omega arith) (ap (λ (k : ℕ). getD chain k 0) (omega arith) ∙ sym d);
-    }
-      where
-        inside : Faces R top (w .at) → w .at < size R
-        inside (faces masterA h g) = g .1
-        inside (faces masterB h g) = omega (arith, v .parts)
-
-    pub may-take : 2 ≤ n → getD chain (n - 2) 0 ≡ w .at → Mutually R left chain n top (w .at) (w .d)
-    may-take two e = record {
-      deep = two;
-      onto-j = q;
-      onto-i = record {
+  pub may-take : 2 ≤ n → getD chain (n - 2) 0 ≡ at → Decided R left chain n (sides top at d (R .split))
+  unfolding sides
+  may-take two e = go (decLt top (R .split)) (q .faces)
+    where
+      onto : Chosen R left at top d
+      onto = record {
         faces = faces-swap R (q .faces);
         alive = c .alive (n - 1) (omega arith);
-        is-d = q .is-d ∙ gap-swap (R .xs) (R .ys) top (w .at);
+        is-d = q .is-d ∙ gap-swap (R .xs) (R .ys) top at;
         nearest = subst (λ (i : ℕ). Nearest R left i top) e (subst (λ (k : ℕ). Nearest R left (getD chain (n - 2) 0) (getD chain k 0)) (omega arith) (c .nearest (n - 2) (omega arith)));
-      };
-      not-i = λ h l. once R left chain n c h (n - 1) (omega arith) (omega arith);
-      not-j = λ h l d. once R left chain n c h (n - 2) (omega arith) (omega arith) (d ∙ sym e);
-    }
+      }
 
-pub decided-at : (R : Rows) (left chain : List ℕ) (n k : ℕ) (m : Move) → n ≡ k → Decided R left chain k m → Decided R left chain n m
-decided-at R left chain n k m e d = subst (λ (x : ℕ). Decided R left chain x m) (sym e) d
+      not-top : (h : ℕ) → h + 2 < n → getD chain h 0 ≡ top → ⊥
+      not-top h l = once R left chain n c h (n - 1) (omega arith) (omega arith)
+
+      not-at : (h : ℕ) → h + 2 < n → getD chain h 0 ≡ at → ⊥
+      not-at h l d = once R left chain n c h (n - 2) (omega arith) (omega arith) (d ∙ sym e)
+
+      go : Dec (top < R .split) → Faces R top at → Decided R left chain n (cond (ltb top (R .split)) (Take top at d) (Take at top d))
+      go (yes l) f = rw (lt-ltb top (R .split) l) (record { deep = two; onto-j = q; onto-i = onto; not-i = not-top; not-j = not-at }, l)
+      go (no l) (faces masterA h g) = absurd (omega arith)
+      go (no l) (faces masterB h g) = rw (le-ltb top (R .split) (h .0)) (record { deep = two; onto-j = onto; onto-i = q; not-i = not-at; not-j = not-top }, g .1)

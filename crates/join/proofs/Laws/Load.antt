@@ -1,9 +1,9 @@
 -- The rows of both masters, as they are copied; the join of the rows is that of the masters. Assumes nothing.
 use Prim.Native.Nat.{ℕ, zero, suc, _+_, _-_, _<_, _≤_}
-use mathlib.Core.Path.{_≡_, refl, sym, _∙_, ap, ap₂, subst}
-use mathlib.Core.List.{List, [], _∷_}
+use mathlib.Core.Path.{_≡_, refl, sym, _∙_, ap, subst}
+use mathlib.Core.List.{List, _∷_}
 use native.Mathlib.Decide.{ℕ-discrete, decLt}
-use native.Mathlib.Nat.{zero-add, sub-zero}
+use native.Mathlib.Nat.{zero-add}
 use native.Mathlib.Omega.{arith}
 use lib.IntN.{ℤ, pos}
 use lib.ListN.{length, getD, set, take, length-set}
@@ -11,37 +11,60 @@ use lib.Seq.{getD-set-same, getD-set-other, getD-take, length-take-le}
 use Rattle.matching.specs.Definitions.Nodes.{Master, masterA, masterB, Node, Unique}
 use Rattle.matching.specs.Definitions.Join.{join}
 use Rattle.matching.specs.Definitions.Columns.{tabulate, nodeAt, nodesOf, Inside}
-use Rattle.matching.specs.Laws.Columns.{tabulate-cong, nodes-length, nodes-get, same-place}
-use Rattle.join.specs.Rows.{Columns, Rows, rows, size, On, nodesOn, rest, Sound, Loaded}
+use Rattle.matching.specs.Laws.Columns.{nodes-length, nodes-get, same-place}
+use Rattle.join.specs.Rows.{Columns, Rows, rows, size, On, rest, Sound, Full, Loaded, Filled}
 use Rattle.join.specs.Contract.{Fit}
 
-module _ (an : List ℕ) (ax ay : List ℤ) (ac : List ℕ) (at : ℕ) (ns₀ : List ℕ) (xs₀ ys₀ : List ℤ) (left₀ : List ℕ) where
+module _ (an : List ℕ) (ax ay : List ℤ) (ac : List ℕ) (at : ℕ) (ns₀ : List ℕ) (xs₀ ys₀ : List ℤ) (left₀ live₀ : List ℕ) where
   -- The first k rows are copied.
-  pub record Loading (ns : List ℕ) (xs ys : List ℤ) (left : List ℕ) (k : ℕ) : Type 0 where
+  pub record Loading (ns : List ℕ) (xs ys : List ℤ) (left live : List ℕ) (k : ℕ) : Type 0 where
     pub count : k ≤ length an
     pub in-n : length ns ≡ length ns₀
     pub in-x : length xs ≡ length xs₀
     pub in-y : length ys ≡ length ys₀
     pub in-left : length left ≡ length left₀
+    pub in-live : length live ≡ length live₀
     pub here : (q : ℕ) → q < k → nodeAt ns xs ys left (at + q) ≡ nodeAt an ax ay ac q
     pub ahead : (q : ℕ) → q < at → nodeAt ns xs ys left q ≡ nodeAt ns₀ xs₀ ys₀ left₀ q
+    pub lists : (q : ℕ) → q < k → getD live (at + q) 0 ≡ at + q
+    pub before : (q : ℕ) → q < at → getD live q 0 ≡ getD live₀ q 0
 
-  pub loading-start : Loading ns₀ xs₀ ys₀ left₀ 0
-  loading-start = record { count = omega arith; in-n = refl; in-x = refl; in-y = refl; in-left = refl; here = λ q h. absurd (omega arith); ahead = λ q h. refl }
+  pub loading-start : Loading ns₀ xs₀ ys₀ left₀ live₀ 0
+  loading-start = record {
+    count = omega arith;
+    in-n = refl;
+    in-x = refl;
+    in-y = refl;
+    in-left = refl;
+    in-live = refl;
+    here = λ q h. absurd (omega arith);
+    ahead = λ q h. refl;
+    lists = λ q h. absurd (omega arith);
+    before = λ q h. refl;
+  }
 
-  module _ (ns : List ℕ) (xs ys : List ℤ) (left : List ℕ) (k : ℕ) (l : Loading ns xs ys left k) where
-    pub loading-on : k < length an → at + k < length ns → at + k < length xs → at + k < length ys → at + k < length left
-        → Loading (set ns (at + k) (getD an k 0)) (set xs (at + k) (getD ax k (pos 0))) (set ys (at + k) (getD ay k (pos 0))) (set left (at + k) (getD ac k 0)) (k + 1)
-    loading-on h hn hx hy hl = record {
+  module _ (ns : List ℕ) (xs ys : List ℤ) (left live : List ℕ) (k : ℕ) (l : Loading ns xs ys left live k) where
+    pub full-now : Full ns₀ xs₀ ys₀ left₀ live₀ → Full ns xs ys left live
+    full-now f = record { in-n = l .in-n ∙ f .in-n; in-x = l .in-x ∙ f .in-x; in-y = l .in-y ∙ f .in-y; in-left = l .in-left ∙ f .in-left; in-live = l .in-live ∙ f .in-live }
+
+    pub loading-on : Full ns₀ xs₀ ys₀ left₀ live₀ → at + length an ≤ 1024 → k < length an
+        → Loading (set ns (at + k) (getD an k 0)) (set xs (at + k) (getD ax k (pos 0))) (set ys (at + k) (getD ay k (pos 0))) (set left (at + k) (getD ac k 0)) (set live (at + k) (at + k)) (k + 1)
+    loading-on full0 fits h = record {
       count = omega arith;
       in-n = simp length-set (l .in-n);
       in-x = simp length-set (l .in-x);
       in-y = simp length-set (l .in-y);
       in-left = simp length-set (l .in-left);
+      in-live = simp length-set (l .in-live);
       here = λ q g. go q g (ℕ-discrete q k);
       ahead = λ q g. other q (λ e. omega arith) ∙ l .ahead q g;
+      lists = λ q g. lists q g (ℕ-discrete q k);
+      before = λ q g. getD-set-other live (at + k) q (at + k) 0 (λ e. omega arith) ∙ l .before q g;
     }
       where
+        full : Full ns xs ys left live
+        full = full-now full0
+
         new : ℕ → Node
         new = nodeAt (set ns (at + k) (getD an k 0)) (set xs (at + k) (getD ax k (pos 0))) (set ys (at + k) (getD ay k (pos 0))) (set left (at + k) (getD ac k 0))
 
@@ -55,18 +78,38 @@ module _ (an : List ℕ) (ax ay : List ℤ) (ac : List ℕ) (at : ℕ) (ns₀ : 
 
         same : new (at + k) ≡ nodeAt an ax ay ac k
         same = λ t. record {
-          number = getD-set-same ns (at + k) (getD an k 0) 0 hn t;
-          x = getD-set-same xs (at + k) (getD ax k (pos 0)) (pos 0) hx t;
-          y = getD-set-same ys (at + k) (getD ay k (pos 0)) (pos 0) hy t;
-          capacity = getD-set-same left (at + k) (getD ac k 0) 0 hl t;
+          number = getD-set-same ns (at + k) (getD an k 0) 0 (omega (arith, full .in-n)) t;
+          x = getD-set-same xs (at + k) (getD ax k (pos 0)) (pos 0) (omega (arith, full .in-x)) t;
+          y = getD-set-same ys (at + k) (getD ay k (pos 0)) (pos 0) (omega (arith, full .in-y)) t;
+          capacity = getD-set-same left (at + k) (getD ac k 0) 0 (omega (arith, full .in-left)) t;
         }
 
         go : (q : ℕ) → q < k + 1 → Dec (q ≡ k) → new (at + q) ≡ nodeAt an ax ay ac q
         go q g (yes e) = rw e same
         go q g (no e) = other (at + q) (λ d. e (omega arith)) ∙ l .here q (omega arith)
 
-    pub loaded : length an ≤ k → Loaded an ax ay ac at ns₀ xs₀ ys₀ left₀ ns xs ys left
-    loaded h = record { here = λ q g. l .here q (omega arith); ahead = l .ahead }
+        lists : (q : ℕ) → q < k + 1 → Dec (q ≡ k) → getD (set live (at + k) (at + k)) (at + q) 0 ≡ at + q
+        lists q g (yes e) = rw e (getD-set-same live (at + k) (at + k) 0 (omega (arith, full .in-live)))
+        lists q g (no e) = getD-set-other live (at + k) (at + q) (at + k) 0 (λ d. e (omega arith)) ∙ l .lists q (omega arith)
+
+    pub loaded : length an ≤ k → Loaded an ax ay ac at ns₀ xs₀ ys₀ left₀ live₀ ns xs ys left live
+    loaded h = record { here = λ q g. l .here q (omega arith); ahead = l .ahead; lists = λ q g. l .lists q (omega arith); before = l .before }
+
+-- Both masters are copied, A's rows first.
+pub filled : (an : List ℕ) (ax ay : List ℤ) (ac bn : List ℕ) (bx by : List ℤ) (bc ns₀ : List ℕ) (xs₀ ys₀ : List ℤ) (left₀ live₀ ns₁ : List ℕ) (xs₁ ys₁ : List ℤ) (left₁ live₁ ns : List ℕ) (xs ys : List ℤ) (left live : List ℕ)
+    → Loaded an ax ay ac 0 ns₀ xs₀ ys₀ left₀ live₀ ns₁ xs₁ ys₁ left₁ live₁ → Loaded bn bx by bc (length an) ns₁ xs₁ ys₁ left₁ live₁ ns xs ys left live
+    → Filled an ax ay ac bn bx by bc ns xs ys left live
+filled an ax ay ac bn bx by bc ns₀ xs₀ ys₀ left₀ live₀ ns₁ xs₁ ys₁ left₁ live₁ ns xs ys left live la lb = record {
+  row-a = λ k h. lb .ahead k h ∙ ap (nodeAt ns₁ xs₁ ys₁ left₁) (sym (zero-add k)) ∙ la .here k h;
+  row-b = lb .here;
+  own = λ k h. own k h (decLt k (length an));
+}
+  where
+    own : (k : ℕ) → k < length an + length bn → Dec (k < length an) → getD live k 0 ≡ k
+    own k h (yes l) = lb .before k l ∙ ap (λ (i : ℕ). getD live₁ i 0) (sym (zero-add k)) ∙ la .lists k l ∙ zero-add k
+    own k h (no l) =
+        let e : length an + (k - length an) ≡ k = omega arith in
+        subst (λ (i : ℕ). getD live i 0 ≡ i) e (lb .lists (k - length an) (omega arith))
 
 tabulate-shift : {X : Type 0} (f g : ℕ → X) (a k n : ℕ) → ((i : ℕ) → k ≤ i → i < k + n → f (a + i) ≡ g i) → tabulate f (a + k) n ≡ tabulate g k n
 unfolding tabulate
@@ -82,7 +125,7 @@ module _ (ms : List ℕ) (us vs : List ℤ) (cs : List ℕ) (at : ℕ) (node : �
       let e : i ≡ at + (i - at) = omega arith in
       ap node e ∙ copied (i - at) (omega arith)
 
-  inside-of : Columns ms us vs cs → (i : ℕ) → at ≤ i → i < at + length ms → Inside (node i .x) (node i .y)
+  inside-of : Columns ms us vs → (i : ℕ) → at ≤ i → i < at + length ms → Inside (node i .x) (node i .y)
   inside-of c i l h = subst (λ (v : Node). Inside (v .x) (v .y)) (sym (row-of i l h)) (c .inside (i - at) (omega arith))
 
   distinct-of : Unique (nodesOf ms us vs cs) → (i k : ℕ) → at ≤ i → i < at + length ms → at ≤ k → k < at + length ms → node i .number ≡ node k .number → i ≡ k
@@ -98,11 +141,9 @@ module _ (ms : List ℕ) (us vs : List ℤ) (cs : List ℕ) (at : ℕ) (node : �
   unfolding nodesOf
   nodes-of n e = rw e (subst (λ (k : ℕ). tabulate node k (length ms) ≡ tabulate (nodeAt ms us vs cs) 0 (length ms)) (omega arith) (tabulate-shift node (nodeAt ms us vs cs) at 0 (length ms) (λ i a b. copied i (omega arith))))
 
--- Both masters are copied, A's rows first; the table has as many rows as both have nodes.
-module _ (an : List ℕ) (ax ay : List ℤ) (ac : List ℕ) (bn : List ℕ) (bx by : List ℤ) (bc : List ℕ) (fa : Fit an ax ay ac) (fb : Fit bn bx by bc)
-    (ns₀ : List ℕ) (xs₀ ys₀ : List ℤ) (left₀ : List ℕ) (ns₁ : List ℕ) (xs₁ ys₁ : List ℤ) (left₁ : List ℕ) (ns : List ℕ) (xs ys : List ℤ) (left : List ℕ)
-    (la : Loaded an ax ay ac 0 ns₀ xs₀ ys₀ left₀ ns₁ xs₁ ys₁ left₁) (lb : Loaded bn bx by bc (length an) ns₁ xs₁ ys₁ left₁ ns xs ys left)
-    (room : (length ns ≡ 1024) × (length xs ≡ 1024) × (length ys ≡ 1024) × (length left ≡ 1024)) where
+-- The table has as many rows as both masters have nodes.
+module _ (an : List ℕ) (ax ay : List ℤ) (ac bn : List ℕ) (bx by : List ℤ) (bc : List ℕ) (fa : Fit an ax ay ac) (fb : Fit bn bx by bc)
+    (ns : List ℕ) (xs ys : List ℤ) (left live : List ℕ) (full : Full ns xs ys left live) (f : Filled an ax ay ac bn bx by bc ns xs ys left live) where
   abbrev n : ℕ
   n = length an + length bn
 
@@ -119,21 +160,22 @@ module _ (an : List ℕ) (ax ay : List ℤ) (ac : List ℕ) (bn : List ℕ) (bx 
   part k h = λ t. record { number = getD-take n ns k 0 h t; x = getD-take n xs k (pos 0) h t; y = getD-take n ys k (pos 0) h t; capacity = getD-take n left k 0 h t }
 
   row-a : (k : ℕ) → k < length an → node (0 + k) ≡ nodeAt an ax ay ac k
-  row-a k h = part (0 + k) (omega arith) ∙ lb .ahead (0 + k) (omega arith) ∙ la .here k h
+  row-a k h = ap node (zero-add k) ∙ part k (omega arith) ∙ f .row-a k h
 
   row-b : (k : ℕ) → k < length bn → node (length an + k) ≡ nodeAt bn bx by bc k
-  row-b k h = part (length an + k) (omega arith) ∙ lb .here k h
+  row-b k h = part (length an + k) (omega arith) ∙ f .row-b k h
 
   pub sound : Sound R (take n left)
   sound = record {
-    columns = record { len-x = len xs (room .1) ∙ sym all; len-y = len ys (room .2) ∙ sym all; len-c = len left (room .3) ∙ sym all; inside = λ k h. inside k h (decLt k (length an)) };
+    columns = record { len-x = len xs (full .in-x) ∙ sym all; len-y = len ys (full .in-y) ∙ sym all; inside = λ k h. inside k h (decLt k (length an)) };
+    len-c = len left (full .in-left) ∙ sym all;
     parts = omega (arith, all);
     most = omega (arith, all, fa .most, fb .most);
     distinct = distinct;
   }
     where
       all : length (take n ns) ≡ n
-      all = len ns (room .0)
+      all = len ns (full .in-n)
 
       inside : (k : ℕ) → k < length (take n ns) → Dec (k < length an) → Inside (getD (take n xs) k (pos 0)) (getD (take n ys) k (pos 0))
       inside k h (yes l) = inside-of an ax ay ac 0 node row-a (fa .columns) k (omega arith) (omega arith)
@@ -145,4 +187,11 @@ module _ (an : List ℕ) (ax ay : List ℤ) (ac : List ℕ) (bn : List ℕ) (bx 
 
   pub rest-join : rest R (take n left) ≡ join (nodesOf an ax ay ac) (nodesOf bn bx by bc)
   unfolding rest
-  rest-join = λ t. join (nodes-of an ax ay ac 0 node row-a (length an - 0) (omega arith) t) (nodes-of bn bx by bc (length an) node row-b (size R - length an) (omega (arith, len ns (room .0))) t)
+  rest-join = λ t. join (nodes-of an ax ay ac 0 node row-a (length an - 0) (omega arith) t) (nodes-of bn bx by bc (length an) node row-b (size R - length an) (omega (arith, len ns (full .in-n))) t)
+
+  -- Each row is listed in its own place.
+  pub own-places : (length (take n live) ≡ length (take n ns)) × ((k : ℕ) → k < length (take n ns) → getD (take n live) k 0 ≡ k)
+  own-places = (len live (full .in-live) ∙ sym (len ns (full .in-n)), λ k h. own k (omega (arith, len ns (full .in-n))))
+    where
+      own : (k : ℕ) → k < n → getD (take n live) k 0 ≡ k
+      own k h = getD-take n live k 0 h ∙ f .own k h

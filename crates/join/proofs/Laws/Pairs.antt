@@ -1,5 +1,5 @@
 -- The pair of two rows that face each other, seen from either. Assumes nothing.
-use Prim.Native.Nat.{ℕ, _+_, _*_, _^_, _<_, _≤_}
+use Prim.Native.Nat.{ℕ, _+_, _*_, _^_, _<_}
 use mathlib.Core.Path.{_≡_, refl, sym, _∙_, ap, ap₂}
 use mathlib.Core.List.{List}
 use native.Mathlib.Omega.{arith}
@@ -12,17 +12,17 @@ use mir.Facts.{toZ-ofZ}
 use borrow.Author.Tests.{lt-ltb, le-ltb}
 use Rattle.matching.specs.Definitions.Nodes.{Master, masterA, masterB, each}
 use Rattle.matching.specs.Definitions.Pairs.{Pair, square, Before, nearer, lowerA, lowerB}
-use Rattle.matching.specs.Laws.Distance.{abs-neg, inside-reach, distance-fits}
+use Rattle.matching.specs.Laws.Distance.{abs-neg}
 use Rattle.matching.specs.Laws.Order.{before-trans, before-irrefl}
 use Rattle.matching.specs.Laws.Earliest.{Leq, strictly, equally}
-use Rattle.join.specs.Rows.{Columns, Placed, Rows, gap, other, size, On, Faces, faces, rowPair, between, Sound}
+use Rattle.join.specs.Rows.{Columns, Placed, Rows, gap, On, Faces, faces, rowPair, between, Sound}
 use Rattle.join.specs.Nearest.{key}
 
 -- A position is read back from its 16 bits.
 pub back : (z : ℤ) → mag z < 2 ^ 15 → toZ w16 (ofZ w16 z) ≡ z
 back z h = toZ-ofZ (record { sfits = h })
 
--- Distances are the same from either end, and fit four bytes.
+-- Distances are the same from either end.
 flip : (x y : ℤ) → square (x -ℤ y) ≡ square (y -ℤ x)
 flip x y = ap (λ (n : ℕ). n * n) (sym (abs-neg (x -ℤ y)) ∙ ap natAbs (negℤ-+ℤ x (negℤ y) ∙ ap (λ (z : ℤ). negℤ x +ℤ z) (negℤ-negℤ y) ∙ +ℤ-comm (negℤ x) y))
 
@@ -30,13 +30,7 @@ pub gap-swap : (xs ys : List ℤ) (i j : ℕ) → gap xs ys i j ≡ gap xs ys j 
 unfolding gap
 gap-swap xs ys i j = ap₂ _+_ (flip (getD xs i (pos 0)) (getD xs j (pos 0))) (flip (getD ys i (pos 0)) (getD ys j (pos 0)))
 
-pub gap-fits : {xs ys : List ℤ} {i j : ℕ} → Placed xs ys i → Placed xs ys j → gap xs ys i j < 4294967295
-unfolding gap
-gap-fits {xs} {ys} {i} {j} p q =
-    distance-fits (getD xs i (pos 0)) (getD ys i (pos 0)) (getD xs j (pos 0)) (getD ys j (pos 0))
-    (inside-reach (getD xs i (pos 0)) (getD ys i (pos 0)) (getD xs j (pos 0)) (getD ys j (pos 0)) (p .inside) (q .inside))
-
-pub placed : {ns : List ℕ} {xs ys : List ℤ} {cs : List ℕ} (k : ℕ) → Columns ns xs ys cs → k < length ns → Placed xs ys k
+pub placed : {ns : List ℕ} {xs ys : List ℤ} (k : ℕ) → Columns ns xs ys → k < length ns → Placed xs ys k
 placed k c h = record { in-x = omega (arith, c .len-x); in-y = omega (arith, c .len-y); inside = c .inside k h }
 
 -- Order among pairs that share a node: by distance, then by the other number.

@@ -11,10 +11,10 @@ use lib.ListN.{length, getD, set, length-set}
 use lib.Seq.{getD-set-same, getD-set-other}
 use borrow.Author.Tests.{eq-eqb, ne-eqb}
 use Rattle.matching.specs.Definitions.Lists.{All}
-use Rattle.matching.specs.Definitions.Nodes.{Master, masterA, masterB, each, Node, capacityOf}
+use Rattle.matching.specs.Definitions.Nodes.{Master, masterA, masterB, each, capacityOf}
 use Rattle.matching.specs.Definitions.Pairs.{Pair, numberIn, distance, pair, pairs}
-use Rattle.matching.specs.Definitions.Links.{Link, link}
-use Rattle.matching.specs.Definitions.Join.{Left, capacities, less, lesser, taken, join}
+use Rattle.matching.specs.Definitions.Links.{Link}
+use Rattle.matching.specs.Definitions.Join.{Left, capacities, less, lesser, taken}
 use Rattle.matching.specs.Definitions.Columns.{tabulate, nodeAt}
 use Rattle.matching.specs.Laws.Lists.{all-in}
 use Rattle.matching.specs.Laws.Left.{less-hit, less-other}
@@ -23,9 +23,9 @@ use Rattle.matching.specs.Laws.Sorting.{sort, along, along-none, all-sort, sort
 use Rattle.matching.specs.Laws.Columns.{tabulate-length, tabulate-all}
 use Rattle.matching.specs.Laws.Sums.{all-pairs, all-nodes}
 use Rattle.matching.specs.Theorems.Join.{join-sorted, join-count}
-use Rattle.matching.specs.Theorems.Mutual.{putLink, Mutual, mutual-first}
-use Rattle.join.specs.Rows.{Rows, gap, other, size, from, to, On, Faces, faces, rowPair, between, nodesOn, rest, Sound}
-use Rattle.join.specs.Nearest.{Nearest, Chosen}
+use Rattle.matching.specs.Theorems.Mutual.{putLink, mutual-first}
+use Rattle.join.specs.Rows.{Rows, gap, size, from, to, On, faces, rowPair, nodesOn, rest, Sound}
+use Rattle.join.specs.Nearest.{Chosen}
 use Rattle.join.proofs.Laws.Pairs.{between-on}
 
 -- A property of all that was tabulated, at one place.
@@ -164,8 +164,8 @@ module _ (R : Rows) (left : List ℕ) (v : Sound R left) where
     lose = set (set left i (getD left i 0 - m)) j (getD left j 0 - m)
 
     at-row : (s : Master) → getD lose (each i j s) 0 ≡ getD left (each i j s) 0 - m
-    at-row masterA = getD-set-other (set left i (getD left i 0 - m)) j i (getD left j 0 - m) 0 (λ e. omega arith) ∙ getD-set-same left i (getD left i 0 - m) 0 (omega (arith, v .columns .len-c, v .parts))
-    at-row masterB = getD-set-same (set left i (getD left i 0 - m)) j (getD left j 0 - m) 0 (simp length-set (omega (arith, v .columns .len-c)))
+    at-row masterA = getD-set-other (set left i (getD left i 0 - m)) j i (getD left j 0 - m) 0 (λ e. omega arith) ∙ getD-set-same left i (getD left i 0 - m) 0 (omega (arith, v .len-c, v .parts))
+    at-row masterB = getD-set-same (set left i (getD left i 0 - m)) j (getD left j 0 - m) 0 (simp length-set (omega (arith, v .len-c)))
 
     pub off-rows : (q : ℕ) → (q ≡ i → ⊥) → (q ≡ j → ⊥) → getD lose q 0 ≡ getD left q 0
     off-rows q a b = getD-set-other (set left i (getD left i 0 - m)) j q (getD left j 0 - m) 0 b ∙ getD-set-other left i q (getD left i 0 - m) 0 a

@@ -43,9 +43,9 @@ module _ (t ns : List ℕ) (xs ys : List ℤ) (ks : List ℕ) (n : ℕ) (d : Dec
     columns = record {
       len-x = length-take-le n xs (omega (arith, d .within, d .rooms .1)) ∙ sym long;
       len-y = length-take-le n ys (omega (arith, d .within, d .rooms .2)) ∙ sym long;
-      len-c = length-take-le n ks (omega (arith, d .within, d .rooms .3)) ∙ sym long;
       inside = inside;
     };
+    len-c = length-take-le n ks (omega (arith, d .within, d .rooms .3)) ∙ sym long;
     unique = rw decoded-nodes (nodes-good t h .unique);
   }
     where

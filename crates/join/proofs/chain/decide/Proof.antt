@@ -1,71 +1,74 @@
--- `chain::decide` meets its contract: what the top's partner decides, by the laws of the chain. Assumes nothing.
-use Prim.Native.Nat.{_-_, _≤_}
+-- `chain::decide` meets its contract: an empty list leaves no pair; else what the top's nearest row decides, by the laws of the chain.
+-- Assumes nothing.
 use native.Mathlib.Omega.{arith}
 use borrow.Author.Needs.{needs}
-use Rattle.join.specs.Rows.{rows}
-use Rattle.join.proofs.Laws.Chain.{decided-at, room, stop, may-push, may-take}
+use Rattle.matching.specs.Definitions.Nodes.{masterA, masterB}
+use Rattle.join.proofs.Laws.Chain.{room, may-push, may-take}
+use Rattle.join.proofs.Laws.Decide.{stop, first-push, listing, top-low, top-chosen}
 use Rattle.join.proofs.chain.decide.Statement.{statement}
 use Rattle.join.proofs.chain.decide.Tie as tie
 
-start-requires : tie.Need-start-requires
-start-requires c κs = search needs
-
 returns : tie.Need-returns
-returns c =
-    let s = c .before .before .before .before .before .args in
-    decided-at (rows (s .ns .now) (s .xs .now) (s .ys .now) (s .split)) (s .left .now) (s .chain .now) (s .depth) 0 (c .start .result) (c .before .if1 .taken) (c .start .ensures)
+returns c = stop _ _ _ _ _ (c .before .before .before .before .before .pre) masterA (c .if1 .taken)
+
+returns-2 : tie.Need-returns-2
+returns-2 c = stop _ _ _ _ _ (c .before .before .before .before .before .before .pre) masterB (c .if2 .taken)
+
+shared-slice-read-t17 : tie.Need-shared-slice-read-t17
+shared-slice-read-t17 c = let l = listing _ _ _ _ _ (c .before .before .before .before .before .before .before .before .pre) masterA (λ e. c .before .before .before .if1 .left e) in omega (arith, l .some, l .room)
+
+returns-3 : tie.Need-returns-3
+returns-3 c = first-push _ _ _ _ _ (c .before .before .before .before .before .before .before .before .pre) (c .before .before .before .if1 .left) (c .before .if3 .taken)
 
 sub-t : tie.Need-sub-t
 sub-t c = search needs
 
 mul-t : tie.Need-mul-t
-mul-t c = record { fits = omega (arith, room _ _ (c .before .before .before .before .pre .0) _ _ (c .before .before .before .before .pre .1), c .before .before .before .before .pre .1 .room) }
+mul-t c = record { fits = omega (arith, room _ _ (c .before .before .before .before .before .before .before .pre .sound) _ _ (c .before .before .before .before .before .before .before .pre .path), c .before .before .before .before .before .before .before .pre .path .room) }
 
 shared-slice-read-t : tie.Need-shared-slice-read-t
-shared-slice-read-t c = omega (arith, room _ _ (c .before .before .before .before .before .pre .0) _ _ (c .before .before .before .before .before .pre .1))
+shared-slice-read-t c = omega (arith, room _ _ (c .before .before .before .before .before .before .before .before .pre .sound) _ _ (c .before .before .before .before .before .before .before .before .pre .path))
 
 partner-requires : tie.Need-partner-requires
-partner-requires c κs = (c .before .before .before .before .before .pre .0, c .before .before .before .before .before .pre .1 .inside (c .before .before .before .before .before .args .depth - 1) (omega arith))
+partner-requires c κs = let p = c .before .before .before .before .before .before .before .before .pre in (p .sound .columns, top-low _ _ _ _ _ p (c .before .if3 .left), listing _ _ _ _ _ p masterA (c .before .before .before .if1 .left), listing _ _ _ _ _ p masterB (c .before .before .if2 .left))
 
-returns-2 : tie.Need-returns-2
-returns-2 c = let p = c .before .before .before .before .before .before .before .pre in stop _ _ (p .0) _ _ (p .1) _ (omega arith) (c .before .partner .ensures) (c .if2 .taken)
+sub-if5 : tie.Need-sub-if5
+sub-if5 c = search needs
 
-sub-if4 : tie.Need-sub-if4
-sub-if4 c = search needs
+mul-if5 : tie.Need-mul-if5
+mul-if5 c = record { fits = omega (arith, room _ _ (c .before .before .before .before .before .before .before .before .before .before .pre .sound) _ _ (c .before .before .before .before .before .before .before .before .before .before .pre .path), c .before .before .before .before .before .before .before .before .before .before .pre .path .room) }
 
-mul-if4 : tie.Need-mul-if4
-mul-if4 c = record { fits = omega (arith, room _ _ (c .before .before .before .before .before .before .before .before .pre .0) _ _ (c .before .before .before .before .before .before .before .before .pre .1), c .before .before .before .before .before .before .before .before .pre .1 .room) }
-
-shared-slice-read-if4 : tie.Need-shared-slice-read-if4
-shared-slice-read-if4 c = omega (arith, room _ _ (c .before .before .before .before .before .before .before .before .before .pre .0) _ _ (c .before .before .before .before .before .before .before .before .before .pre .1))
+shared-slice-read-if5 : tie.Need-shared-slice-read-if5
+shared-slice-read-if5 c = omega (arith, room _ _ (c .before .before .before .before .before .before .before .before .before .before .before .pre .sound) _ _ (c .before .before .before .before .before .before .before .before .before .before .before .pre .path))
 
 sided-requires : tie.Need-sided-requires
-sided-requires c κs = let p = c .before .before .before .before .before .before .before .before .before .before .pre in may-take _ _ (p .0) _ _ (p .1) _ (omega arith) (c .before .before .before .before .partner .ensures) (c .before .before .before .if2 .left) (omega arith) (c .if4 .taken)
-
-returns-3 : tie.Need-returns-3
-returns-3 c = search needs
+sided-requires c κs = search needs
 
 returns-4 : tie.Need-returns-4
-returns-4 c = let p = c .before .before .before .before .before .before .before .before .before .before .pre in may-push _ _ (p .0) _ _ (p .1) _ (omega arith) (c .before .before .before .before .partner .ensures) (c .before .before .before .if2 .left) (λ l. c .if4 .left)
+returns-4 c = let p = c .before .before .before .before .before .before .before .before .before .before .before .before .before .pre in rw (c .sided .ensures) (may-take _ _ (p .sound) _ _ (p .path) (omega arith) _ _ (top-chosen _ _ _ _ _ p (c .before .before .before .before .before .before .if3 .left) _ (c .before .before .before .before .partner .ensures)) (omega arith) (c .before .if5 .taken))
 
 returns-5 : tie.Need-returns-5
-returns-5 c = let p = c .before .before .before .before .before .before .before .before .pre in may-push _ _ (p .0) _ _ (p .1) _ (omega arith) (c .before .before .partner .ensures) (c .before .if2 .left) (λ l. absurd (omega arith))
+returns-5 c = let p = c .before .before .before .before .before .before .before .before .before .before .before .before .pre in may-push _ _ (p .sound) _ _ (p .path) (omega arith) _ _ (top-chosen _ _ _ _ _ p (c .before .before .before .before .before .if3 .left) _ (c .before .before .before .partner .ensures)) (λ l. c .if5 .left)
+
+returns-6 : tie.Need-returns-6
+returns-6 c = let p = c .before .before .before .before .before .before .before .before .before .before .pre in may-push _ _ (p .sound) _ _ (p .path) (omega arith) _ _ (top-chosen _ _ _ _ _ p (c .before .before .before .if3 .left) _ (c .before .partner .ensures)) (λ l. absurd (omega arith))
 
 pub decide-spec : {M : Type 1} → statement M
 decide-spec =
     tie.close
     (tie.spec
-    start-requires
     returns
+    returns-2
+    shared-slice-read-t17
+    returns-3
     sub-t
     mul-t
     shared-slice-read-t
     partner-requires
-    returns-2
-    sub-if4
-    mul-if4
-    shared-slice-read-if4
+    sub-if5
+    mul-if5
+    shared-slice-read-if5
     sided-requires
-    returns-3
     returns-4
-    returns-5)
+    returns-5
+    returns-6)

@@ -1,58 +1,72 @@
 -- `chain::pick` meets its contract. The loop's invariant: the links taken, put into those still to be taken, are the join of what was left at first.
--- The measure is the step's. Assumes nothing.
+-- The toGo is the step's. Assumes nothing.
 use Prim.Native.Nat.{ℕ}
 use mathlib.Core.Path.{_≡_, refl, sym, _∙_}
-use mathlib.Core.Bool.{Bool, false}
+use mathlib.Core.Bool.{false}
 use mathlib.Core.List.{[]}
 use native.Mathlib.Omega.{arith}
 use Rattle.matching.specs.Definitions.Columns.{tabulate, linksOf}
 use Rattle.matching.specs.Theorems.Mutual.{puts}
 use Rattle.join.specs.Rows.{rows, rest}
 use Rattle.join.specs.Order.{table}
-use Rattle.join.specs.Chain.{Good, whole, measure}
-use Rattle.join.proofs.Laws.Step.{good-start}
+use Rattle.join.specs.Chain.{Good, whole, toGo}
+use Rattle.join.proofs.Laws.Step.{span-a, span-b, good-start}
 use Rattle.join.proofs.chain.pick.Statement.{statement}
 use Rattle.join.proofs.chain.pick.Tie as tie
 
 abbrev Inv-loop : tie.InvT-loop
-Inv-loop split ns xs ys left₀ chain₀ la₀ lb₀ ld₀ lm₀ s₀ left chain la lb ld lm s =
-    Good (rows ns xs ys split) left chain (table la lb ld lm) s
+Inv-loop split ns xs ys left₀ live₀ chain₀ la₀ lb₀ ld₀ lm₀ a b s₀ left live chain la lb ld lm s =
+    Good (rows ns xs ys split) left live chain (table la lb ld lm) s
     × (whole (rows ns xs ys split) left (table la lb ld lm) (s .links) ≡ rest (rows ns xs ys split) left₀)
     × (s .more ≡ false → rest (rows ns xs ys split) left ≡ [])
 
 abbrev μ-loop : tie.MeasureT-loop
-μ-loop split ns xs ys left₀ chain₀ la₀ lb₀ ld₀ lm₀ s₀ left chain la lb ld lm s = measure (rows ns xs ys split) left s
+μ-loop split ns xs ys left₀ live₀ chain₀ la₀ lb₀ ld₀ lm₀ a b s₀ left live chain la lb ld lm s = toGo (rows ns xs ys split) left s
+
+keep-requires : tie.Need-keep-requires Inv-loop μ-loop
+keep-requires c κs = let p = c .before .before .before .before .before .before .before .before .before .before .pre in span-a _ _ _ (p .0 .0) (p .1 .0) (p .1 .1)
+
+keep-requires-2 : tie.Need-keep-requires-2 Inv-loop μ-loop
+keep-requires-2 c κs = let p = c .before .before .before .before .before .before .before .before .before .before .before .before .before .before .before .pre in span-b _ _ _ (p .0 .0) (p .1 .0) (p .1 .1) _ _ (c .before .before .before .live .given) (c .before .before .before .before .keep .ensures)
 
 loop-holds : tie.Need-loop-holds Inv-loop μ-loop
 unfolding whole linksOf tabulate puts
-loop-holds c = let p = c .before .before .before .before .before .before .before .pre in (good-start _ _ _ _ (p .0) (p .1) (p .2), refl, λ e. let z : _≡_ {A = ℕ} 0 1 = cc in absurd (omega arith))
+loop-holds c =
+    let p = c .before .before .before .before .before .before .before .before .before .before .before .before .before .before .before .before .before .before .pre in (
+      good-start _ _ _ (p .0 .0) (p .1 .0) (p .1 .1) _ _ (c .before .before .before .before .before .before .live .given) (c .before .before .before .before .before .before .before .keep .ensures) _ _ _ _ (c .before .live2 .given) (c .before .before .keep2 .ensures) (p .0 .1) (p .0 .2),
+      refl,
+      λ e. let z : _≡_ {A = ℕ} 0 1 = cc in absurd (omega arith),
+    )
 
 step-requires : tie.Need-step-requires Inv-loop μ-loop
-step-requires c κs = (c .before .before .before .before .before .before .before .loop .inv .0, c .before .before .before .before .before .before .loop-test .taken)
+step-requires c κs = (c .before .before .before .before .before .before .before .before .loop .inv .0, c .before .before .before .before .before .before .before .loop-test .taken)
 
 loop-less : tie.Need-loop-less Inv-loop μ-loop
-loop-less c = c .before .before .before .before .before .before .before .before .before .before .before .before .step .ensures .falls
+loop-less c = c .before .before .before .before .before .before .before .before .before .before .before .before .before .before .step .ensures .falls
 
 loop-again : tie.Need-loop-again Inv-loop μ-loop
-loop-again c = let r = c .before .before .before .before .before .before .before .before .before .before .before .before .step .ensures in (r .good, r .same ∙ c .before .before .before .before .before .before .before .before .before .before .before .before .before .before .before .before .before .before .before .before .loop .inv .1, r .ends)
+loop-again c = let r = c .before .before .before .before .before .before .before .before .before .before .before .before .before .before .step .ensures in (r .good, r .same ∙ c .before .before .before .before .before .before .before .before .before .before .before .before .before .before .before .before .before .before .before .before .before .before .before .loop .inv .1, r .ends)
 
 same-length : tie.Need-same-length Inv-loop μ-loop
-same-length c = c .before .loop .inv .0 .sound .columns .len-c ∙ sym (c .before .before .before .before .before .before .before .before .before .pre .0 .columns .len-c)
+same-length c = c .before .loop .inv .0 .ready .sound .len-c ∙ sym (c .before .before .before .before .before .before .before .before .before .before .before .before .before .before .before .before .before .before .before .before .pre .0 .0 .len-c)
 
 same-length-2 : tie.Need-same-length-2 Inv-loop μ-loop
-same-length-2 c = c .before .loop .inv .0 .path .room ∙ sym (c .before .before .before .before .before .before .before .before .before .pre .1)
+same-length-2 c = c .before .loop .inv .0 .ready .len-live ∙ sym (c .before .before .before .before .before .before .before .before .before .before .before .before .before .before .before .before .before .before .before .before .pre .1 .0)
 
 same-length-3 : tie.Need-same-length-3 Inv-loop μ-loop
-same-length-3 c = c .before .loop .inv .0 .room .in-a ∙ sym (c .before .before .before .before .before .before .before .before .before .pre .2 .in-a)
+same-length-3 c = c .before .loop .inv .0 .ready .path .room ∙ sym (c .before .before .before .before .before .before .before .before .before .before .before .before .before .before .before .before .before .before .before .before .pre .0 .1)
 
 same-length-4 : tie.Need-same-length-4 Inv-loop μ-loop
-same-length-4 c = c .before .loop .inv .0 .room .in-b ∙ sym (c .before .before .before .before .before .before .before .before .before .pre .2 .in-b)
+same-length-4 c = c .before .loop .inv .0 .room .in-a ∙ sym (c .before .before .before .before .before .before .before .before .before .before .before .before .before .before .before .before .before .before .before .before .pre .0 .2 .in-a)
 
 same-length-5 : tie.Need-same-length-5 Inv-loop μ-loop
-same-length-5 c = c .before .loop .inv .0 .room .in-d ∙ sym (c .before .before .before .before .before .before .before .before .before .pre .2 .in-d)
+same-length-5 c = c .before .loop .inv .0 .room .in-b ∙ sym (c .before .before .before .before .before .before .before .before .before .before .before .before .before .before .before .before .before .before .before .before .pre .0 .2 .in-b)
 
 same-length-6 : tie.Need-same-length-6 Inv-loop μ-loop
-same-length-6 c = c .before .loop .inv .0 .room .in-m ∙ sym (c .before .before .before .before .before .before .before .before .before .pre .2 .in-m)
+same-length-6 c = c .before .loop .inv .0 .room .in-d ∙ sym (c .before .before .before .before .before .before .before .before .before .before .before .before .before .before .before .before .before .before .before .before .pre .0 .2 .in-d)
+
+same-length-7 : tie.Need-same-length-7 Inv-loop μ-loop
+same-length-7 c = c .before .loop .inv .0 .room .in-m ∙ sym (c .before .before .before .before .before .before .before .before .before .before .before .before .before .before .before .before .before .before .before .before .pre .0 .2 .in-m)
 
 returns : tie.Need-returns Inv-loop μ-loop
 unfolding whole
@@ -64,6 +78,8 @@ pick-spec =
     (tie.spec
     Inv-loop
     μ-loop
+    keep-requires
+    keep-requires-2
     loop-holds
     step-requires
     loop-less
@@ -74,4 +90,5 @@ pick-spec =
     same-length-4
     same-length-5
     same-length-6
+    same-length-7
     returns)

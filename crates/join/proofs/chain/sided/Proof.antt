@@ -1,14 +1,16 @@
--- `chain::sided` meets its contract: of two rows that face each other, the one that is not B's is A's. Assumes nothing.
-use borrow.Author.Needs.{needs}
-use Rattle.join.proofs.Laws.Chain.{mutually-swap}
+-- `chain::sided` meets its contract: the definition goes by the same test. Assumes nothing.
+use borrow.Author.Tests.{lt-ltb, le-ltb}
+use Rattle.join.specs.Chain.{sides}
 use Rattle.join.proofs.chain.sided.Statement.{statement}
 use Rattle.join.proofs.chain.sided.Tie as tie
 
 returns : tie.Need-returns
-returns c = search needs
+unfolding sides
+returns c = rw (lt-ltb _ _ (c .if1 .taken))
 
 returns-2 : tie.Need-returns-2
-returns-2 c = mutually-swap _ _ _ _ _ _ _ (c .before .pre) (c .if1 .left)
+unfolding sides
+returns-2 c = rw (le-ltb _ _ (c .if1 .left))
 
 pub sided-spec : {M : Type 1} → statement M
 sided-spec = tie.close (tie.spec returns returns-2)

@@ -1,7 +1,4 @@
 -- `chain::take` meets its contract: the stores, with the lesser as the amount. Assumes nothing.
-use lib.ListN.{length-set}
-use mathlib.Core.Path.{_≡_, refl, _∙_, ap}
-use native.Mathlib.Omega.{arith}
 use borrow.Author.Needs.{needs}
 use Rattle.join.proofs.chain.take.Statement.{statement}
 use Rattle.join.proofs.chain.take.Tie as tie
