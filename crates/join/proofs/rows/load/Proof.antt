@@ -19,10 +19,10 @@ loop-holds : tie.Need-loop-holds Inv-loop μ-loop
 loop-holds c = loading-start _ _ _ _ _ _ _ _ _ _
 
 mul-ns : tie.Need-mul-ns Inv-loop μ-loop
-mul-ns c = (search needs)
+mul-ns c = search needs
 
 shared-slice-read-ns : tie.Need-shared-slice-read-ns Inv-loop μ-loop
-shared-slice-read-ns c = (search needs)
+shared-slice-read-ns c = search needs
 
 add-ns : tie.Need-add-ns Inv-loop μ-loop
 add-ns c = let f = full-now _ _ _ _ _ _ _ _ _ _ _ _ _ _ _ _ (c .before .before .loop .inv) (c .before .before .before .pre .1 .0) in omega (arith, f .in-n, f .in-x, f .in-y, f .in-left, f .in-live, c .before .before .before .pre .1 .1)
@@ -91,7 +91,7 @@ slice-write-live : tie.Need-slice-write-live Inv-loop μ-loop
 slice-write-live c = let f = full-now _ _ _ _ _ _ _ _ _ _ _ _ _ _ _ _ (c .before .before .before .before .before .loop .inv) (c .before .before .before .before .before .before .pre .1 .0) in omega (arith, f .in-n, f .in-x, f .in-y, f .in-left, f .in-live, c .before .before .before .before .before .before .pre .1 .1)
 
 add-k : tie.Need-add-k Inv-loop μ-loop
-add-k c = (search needs)
+add-k c = search needs
 
 loop-less : tie.Need-loop-less Inv-loop μ-loop
 loop-less c = omega arith
