@@ -1,4 +1,6 @@
 -- Laws that the programs' proofs lean on.
 pub mod Fit
-pub mod Found
-pub mod Pair
+pub mod Answers
+pub mod Verdicts
+pub mod Calls
+pub mod Spare

@@ -1,3 +1,4 @@
 -- What the calls share, in their own words.
-pub mod Found
+pub mod Verdicts
+pub mod Spare
 pub mod Laws

@@ -1,24 +1,17 @@
-// What every call begins with: both tables read, and their links.
+// The links of two sound tables.
 ghost use mathlib.Core.Path.{_≡_};
+ghost use mathlib.Core.Option.{none};
 ghost use lib.ListN.{length};
-ghost use Rattle.tables.specs.Definitions.Sizes.{tableSize};
-ghost use Rattle.join.specs.Contract.{Fit, Room};
-ghost use Rattle.pairing.specs.Found.{FoundBeside, FoundIn};
 ghost use Rattle.matching.specs.Definitions.Columns.{nodesOf};
+ghost use Rattle.tables.specs.Definitions.Sizes.{tableSize};
+ghost use Rattle.tables.specs.Definitions.Tables.{nodesIn, firstFault};
+ghost use Rattle.join.specs.Contract.{Fit, Room, Joined};
+ghost use Rattle.pairing.specs.Verdicts.{Sound};
 use join::join;
-use tables::lookup::SLOTS;
-use tables::nodes::Reading;
-use tables::nodes::read_table;
+use tables::nodes::decode;
 use tables::sizes::NODES;
 
-// The number of links, or the first faulty row of the first table that has one.
-pub enum Found {
-    Links(usize),
-    FaultyA(u16),
-    FaultyB(u16),
-}
-
-// The nodes of A are read: B's, and the links.
+// A's nodes are in columns: B's too, and the links.
 fn beside(
     an: &[u32],
     ax: &[i16],
@@ -29,39 +22,34 @@ fn beside(
     lb: &mut [u32],
     ld: &mut [u32],
     lm: &mut [u32],
-) -> Found
+) -> usize
     requires { ⌜ Fit (now an) (now ax) (now ay) (now ac) ⌝ }
-    requires { ⌜ length (now b) ≡ tableSize ⌝ }
+    requires { ⌜ (length (now b) ≡ tableSize) × (firstFault (now b) ≡ none) ⌝ }
     requires { ⌜ Room (now la) (now lb) (now ld) (now lm) ⌝ }
-    ensures { λ r. ⌜ FoundBeside (nodesOf (now (an .entry)) (now (ax .entry)) (now (ay .entry)) (now (ac .entry))) (now (b .entry)) (now (la .exit)) (now (lb .exit)) (now (ld .exit)) (now (lm .exit)) r ⌝ }
+    ensures { λ r. ⌜ Joined (nodesOf (now (an .entry)) (now (ax .entry)) (now (ay .entry)) (now (ac .entry))) (nodesIn (now (b .entry))) (now (la .exit)) (now (lb .exit)) (now (ld .exit)) (now (lm .exit)) r ⌝ }
 {
     let mut ns = [0u32; NODES];
     let mut xs = [0i16; NODES];
     let mut ys = [0i16; NODES];
     let mut ks = [0u32; NODES];
-    let mut head = [0u16; SLOTS];
-    let mut next = [0u16; NODES];
-    let r = read_table(b, &mut ns, &mut xs, &mut ys, &mut ks, &mut head, &mut next);
-    match r {
-        Reading::Nodes(n) => Found::Links(join(
-            an,
-            ax,
-            ay,
-            ac,
-            &ns[..n],
-            &xs[..n],
-            &ys[..n],
-            &ks[..n],
-            la,
-            lb,
-            ld,
-            lm,
-        )),
-        Reading::Fault(k) => Found::FaultyB(k),
-    }
+    let n = decode(b, &mut ns, &mut xs, &mut ys, &mut ks);
+    join(
+        an,
+        ax,
+        ay,
+        ac,
+        &ns[..n],
+        &xs[..n],
+        &ys[..n],
+        &ks[..n],
+        la,
+        lb,
+        ld,
+        lm,
+    )
 }
 
-// The links of two tables into columns.
+// The links into columns; their number.
 pub fn links(
     a: &[u8],
     b: &[u8],
@@ -69,20 +57,15 @@ pub fn links(
     lb: &mut [u32],
     ld: &mut [u32],
     lm: &mut [u32],
-) -> Found
-    requires { ⌜ (length (now a) ≡ tableSize) × (length (now b) ≡ tableSize) ⌝ }
+) -> usize
+    requires { ⌜ Sound (now a) (now b) ⌝ }
     requires { ⌜ Room (now la) (now lb) (now ld) (now lm) ⌝ }
-    ensures { λ r. ⌜ FoundIn (now (a .entry)) (now (b .entry)) (now (la .exit)) (now (lb .exit)) (now (ld .exit)) (now (lm .exit)) r ⌝ }
+    ensures { λ r. ⌜ Joined (nodesIn (now (a .entry))) (nodesIn (now (b .entry))) (now (la .exit)) (now (lb .exit)) (now (ld .exit)) (now (lm .exit)) r ⌝ }
 {
     let mut ns = [0u32; NODES];
     let mut xs = [0i16; NODES];
     let mut ys = [0i16; NODES];
     let mut ks = [0u32; NODES];
-    let mut head = [0u16; SLOTS];
-    let mut next = [0u16; NODES];
-    let r = read_table(a, &mut ns, &mut xs, &mut ys, &mut ks, &mut head, &mut next);
-    match r {
-        Reading::Nodes(n) => beside(&ns[..n], &xs[..n], &ys[..n], &ks[..n], b, la, lb, ld, lm),
-        Reading::Fault(k) => Found::FaultyA(k),
-    }
+    let n = decode(a, &mut ns, &mut xs, &mut ys, &mut ks);
+    beside(&ns[..n], &xs[..n], &ys[..n], &ks[..n], b, la, lb, ld, lm)
 }

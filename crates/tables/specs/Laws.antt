@@ -13,6 +13,7 @@ pub mod Search
 pub mod LookUp
 pub mod Decode
 pub mod Sound
+pub mod Find
 pub mod LinkFields
 pub mod Digits
 pub mod Bands

@@ -7,7 +7,7 @@ ghost use lib.ListN.{length};
 ghost use Rattle.tables.specs.Definitions.Sizes.{editSize, tableSize, nodeRows};
 ghost use Rattle.tables.specs.Definitions.Rows.{put};
 ghost use Rattle.tables.specs.Definitions.Tables.{capacityGood};
-ghost use Rattle.tables.specs.Definitions.Edits.{kindOf, capacityField, positionsZero, positionsGood, editFields, closed, editTable};
+ghost use Rattle.tables.specs.Definitions.Edits.{kindOf, masterOf, numberOf, capacityField, positionsZero, positionsGood, editFields, closed, editTable};
 ghost use Rattle.tables.specs.Laws.Changes.{changeOf, known, Applies};
 use super::fields;
 use super::rows;
@@ -35,6 +35,22 @@ pub fn change_of(edit: &[u8]) -> Change
         4 => Change::Capacity,
         _ => Change::Unknown,
     }
+}
+
+// The byte that names its master.
+pub fn master_of(edit: &[u8]) -> u8
+    requires { ⌜ length (now edit) ≡ editSize ⌝ }
+    ensures { λ r. ⌜ r ≡ masterOf (now (edit .entry)) ⌝ }
+{
+    edit[1]
+}
+
+// The number of its node.
+pub fn number_of(edit: &[u8]) -> u32
+    requires { ⌜ length (now edit) ≡ editSize ⌝ }
+    ensures { λ r. ⌜ r ≡ numberOf (now (edit .entry)) ⌝ }
+{
+    fields::number_at(edit, sizes::EDIT_NUMBER)
 }
 
 // Whether the fields that the change uses are in range, and the others zero. Of an unknown change they never are.

@@ -5,6 +5,7 @@ pub mod compare;
 pub mod edits;
 pub mod faults;
 pub mod fields;
+pub mod find;
 pub mod lists;
 pub mod lookup;
 pub mod nodes;

@@ -24,7 +24,7 @@ use super::sizes::LINKS;
 use super::sizes::LIST;
 
 // One link's row at byte `at`.
-fn put_row(part: &mut [u8], at: usize, a: u32, b: u32, d: u32, m: u32)
+pub fn put_row(part: &mut [u8], at: usize, a: u32, b: u32, d: u32, m: u32)
     requires { ⌜ at + linkSize ≤ length (now part) ⌝ }
     ensures { λ _. ⌜ now (part .exit) ≡ put (now (part .entry)) at (linkBytes (record { a = a; b = b; distance = d; amount = m })) ⌝ }
 {

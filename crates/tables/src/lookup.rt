@@ -6,7 +6,7 @@ ghost use mathlib.Core.Path.{_≡_};
 ghost use mathlib.Core.Bool.{true};
 ghost use lib.ListN.{length, getD};
 ghost use Rattle.tables.specs.Definitions.Sizes.{nodeRows};
-ghost use Rattle.tables.specs.Laws.LookUp.{slots, slotOf, lookUp, Distinct, Found, Scanned};
+ghost use Rattle.tables.specs.Laws.LookUp.{slots, slotOf, lookUp, Distinct};
 use super::sizes::NODES;
 
 pub const SLOTS: usize = 1024;
@@ -84,30 +84,4 @@ pub fn index(ns: &[u32], head: &mut [u16], next: &mut [u16]) -> bool
 {
     chain(ns, head, next);
     all_found(ns, head, next)
-}
-
-// The first place with the number n, or the count of places: for a number that the chains do not find.
-fn scan(ns: &[u32], n: u32) -> usize
-    ensures { λ r. ⌜ Scanned (now (ns .entry)) n r ⌝ }
-{
-    let mut i = 0;
-    while i < ns.len() {
-        if ns[i] == n {
-            return i;
-        }
-        i += 1;
-    }
-    i
-}
-
-// The place of the number n, or the count of places where there is none.
-pub fn find(ns: &[u32], head: &[u16], next: &[u16], n: u32) -> usize
-    requires { ⌜ (length (now ns) ≤ nodeRows) × (length (now head) ≡ slots) × (length (now next) ≡ nodeRows) ⌝ }
-    ensures { λ r. ⌜ Found (now (ns .entry)) n r ⌝ }
-{
-    let i = probe(ns, head, next, n);
-    if i < ns.len() {
-        return i;
-    }
-    scan(ns, n)
 }

@@ -9,12 +9,13 @@ ghost use Rattle.tables.specs.Definitions.Tables.{nodeFrom, fieldsGood, 
 ghost use Rattle.tables.specs.Laws.Decode.{Stored, Decoded};
 ghost use Rattle.tables.specs.Laws.Sound.{ZeroRow, Numbered};
 ghost use Rattle.tables.specs.Laws.LookUp.{slots};
-ghost use Rattle.tables.specs.Definitions.Code.{Read};
+ghost use Rattle.tables.specs.Definitions.Code.{faultOf};
 use super::faults::Fault;
 use super::faults::first_fault;
 use super::faults::row_number;
 use super::fields::position_at;
 use super::fields::two_at;
+use super::lookup::SLOTS;
 use super::lookup::index;
 use super::rows::fields_good;
 use super::rows::fields_zero;
@@ -23,12 +24,6 @@ use super::sizes::NODE_CAPACITY;
 use super::sizes::NODE_X;
 use super::sizes::NODE_Y;
 use super::sizes::NODES;
-
-// A table's nodes by their number, or its first faulty row.
-pub enum Reading {
-    Nodes(usize),
-    Fault(u16),
-}
 
 // Stores the node of row k in place k.
 fn store(t: &[u8], k: usize, ns: &mut [u32], xs: &mut [i16], ys: &mut [i16], ks: &mut [u32])
@@ -114,28 +109,20 @@ fn sound(t: &[u8], ns: &[u32], head: &mut [u16], next: &mut [u16]) -> bool
     index(ns, head, next)
 }
 
-// Reads a table: its nodes into the columns, with the chains for look-up, or its first faulty row.
-pub fn read_table(
-    t: &[u8],
-    ns: &mut [u32],
-    xs: &mut [i16],
-    ys: &mut [i16],
-    ks: &mut [u32],
-    head: &mut [u16],
-    next: &mut [u16],
-) -> Reading
+// The first faulty row of a table. Quick where there is none.
+pub fn fault(t: &[u8]) -> Fault
     requires { ⌜ length (now t) ≡ tableSize ⌝ }
-    requires { ⌜ (length (now ns) ≡ nodeRows) × (length (now xs) ≡ nodeRows) × (length (now ys) ≡ nodeRows) × (length (now ks) ≡ nodeRows) ⌝ }
-    requires { ⌜ (length (now head) ≡ slots) × (length (now next) ≡ nodeRows) ⌝ }
-    ensures { λ r. ⌜ Read (now (t .entry)) (now (ns .exit)) (now (xs .exit)) (now (ys .exit)) (now (ks .exit)) r ⌝ }
+    ensures { λ r. ⌜ r ≡ faultOf (firstFault (now (t .entry))) ⌝ }
 {
-    let n = decode(t, ns, xs, ys, ks);
-    if sound(t, &ns[..n], head, next) {
-        return Reading::Nodes(n);
+    let mut ns = [0u32; NODES];
+    let mut xs = [0i16; NODES];
+    let mut ys = [0i16; NODES];
+    let mut ks = [0u32; NODES];
+    let mut head = [0u16; SLOTS];
+    let mut next = [0u16; NODES];
+    let n = decode(t, &mut ns, &mut xs, &mut ys, &mut ks);
+    if sound(t, &ns[..n], &mut head, &mut next) {
+        return Fault::None;
     }
-    let fault = first_fault(t);
-    match fault {
-        Fault::Row(k) => Reading::Fault(k),
-        Fault::None => Reading::Nodes(n),
-    }
+    first_fault(t)
 }

@@ -109,7 +109,7 @@ module _ (J : List Link) (good : All GoodLink J) (room : length J ≤ linkRows) 
   unfolding put
   put-row m = rw (link-length x) (ap (λ (r : List ℕ). linkBytes x ++ r) (drop-zeros linkSize m))
 
-  next-row : take linkSize (drop (linkSize * k) (listBytes J)) ≡ linkBytes x
+  pub next-row : take linkSize (drop (linkSize * k) (listBytes J)) ≡ linkBytes x
   next-row = rw (full, ← size, drop-append-seam P (linkBytes x ++ R)) (take-at (linkBytes x) R linkSize (link-length x))
 
   put-next : put (listBytes (take k J)) (linkSize * k) (linkBytes x) ≡ listBytes (take (suc k) J)

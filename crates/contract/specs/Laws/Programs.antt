@@ -72,7 +72,8 @@ neither q l (some k) n r h g = go (zeroFrom l k) (rw r at h) (rw n at g)
     go true h g = g
     go false h g = h
 
-reads-too : (q : Request) → needsFinished q ≡ true → readsList q ≡ true
+-- They all read it.
+pub reads-too : (q : Request) → needsFinished q ≡ true → readsList q ≡ true
 reads-too pair h = absurd (false≢true h)
 reads-too step h = absurd (false≢true h)
 reads-too (edit e) h = refl

@@ -66,14 +66,3 @@ Distinct ns = (i j : ℕ) → i < length ns → j < length ns → getD ns i 0 �
 -- Where each place is found by its number, none does.
 pub found-distinct : (ns head next : List ℕ) → ((i : ℕ) → i < length ns → lookUp ns head next (getD ns i 0) ≡ i) → Distinct ns
 found-distinct ns head next h i j a b e = sym (h i a) ∙ ap (lookUp ns head next) e ∙ h j b
-
--- What a scan, and what a look-up, finds.
-pub record Scanned (ns : List ℕ) (n r : ℕ) : Type 0 where
-  pub within : r ≤ length ns
-  pub here : r < length ns → getD ns r 0 ≡ n
-  pub ahead : (k : ℕ) → k < r → getD ns k 0 ≡ n → ⊥
-
-pub record Found (ns : List ℕ) (n r : ℕ) : Type 0 where
-  pub within : r ≤ length ns
-  pub here : r < length ns → getD ns r 0 ≡ n
-  pub none : r ≡ length ns → (k : ℕ) → k < length ns → getD ns k 0 ≡ n → ⊥

@@ -16,8 +16,7 @@ use Rattle.matching.specs.Definitions.Columns.{nodeAt}
 use Rattle.matching.specs.Laws.Columns.{tabulate-get, tabulate-length}
 use Rattle.tables.specs.Definitions.Sizes.{nodeSize, nodeRows}
 use Rattle.tables.specs.Definitions.Tables.{nodeFrom, rowNumber, nodesFrom, nodesIn, fieldsGood, fieldsZero, faulty, firstFault}
-use Rattle.tables.specs.Definitions.Code.{faultOf, Read}
-use Rattle.tables.specs.declared.nodes.Reading.the-variants.{Nodes, Fault}
+use Rattle.tables.specs.Definitions.Code.{faultOf}
 use Rattle.tables.specs.declared.faults.Fault.the-variants.{None, Row}
 use Rattle.tables.specs.Laws.Rows.{from-none}
 use Rattle.tables.specs.Laws.Faultless.{not-stands}
@@ -110,15 +109,3 @@ fault-row (some j) k e = let i : j ≡ k = cc in ap some i
 pub fault-none : (o : Option ℕ) → faultOf o ≡ None → o ≡ none
 fault-none none e = refl
 fault-none (some j) e = absurd (let z : _≡_ {A = ℕ} 0 1 = cc in omega arith)
-
-pub read-accepted : {t ns : List ℕ} {xs ys : List ℤ} {ks : List ℕ} {n : ℕ} → firstFault t ≡ none → Decoded t ns xs ys ks n → Read t ns xs ys ks (Nodes n)
-read-accepted {t} {ns} {xs} {ys} {ks} {n} e d = record {
-  accepted = λ m i. (e, subst (Decoded t ns xs ys ks) (let j : n ≡ m = cc in j) d);
-  refused = λ k i. absurd (let z : _≡_ {A = ℕ} 0 1 = cc in omega arith);
-}
-
-pub read-refused : (t ns : List ℕ) (xs ys : List ℤ) (ks : List ℕ) (k : ℕ) → firstFault t ≡ some k → Read t ns xs ys ks (Fault k)
-read-refused t ns xs ys ks k e = record {
-  accepted = λ m i. absurd (let z : _≡_ {A = ℕ} 0 1 = cc in omega arith);
-  refused = λ j i. e ∙ ap some (let h : k ≡ j = cc in h);
-}

@@ -1,70 +1,57 @@
--- `pairing::links::beside` meets its contract: the columns of an accepted table are fit for the join. Assumes nothing.
-use borrow.Author.Needs.{needs}
+-- `pairing::links::beside` meets its contract: the columns of a sound table are fit for the join. Assumes nothing.
 use mathlib.Core.Path.{sym}
 use native.Mathlib.Omega.{arith}
 use lib.Seq.{length-take-le}
 use Rattle.tables.specs.Laws.ListRead.{bytes-known}
 use Rattle.pairing.specs.Laws.Fit.{decoded-nodes, decoded-fit}
+use borrow.Author.Needs.{needs}
 use Rattle.pairing.proofs.links.beside.Statement.{statement}
 use Rattle.pairing.proofs.links.beside.Tie as tie
 
-slice-aggregate-read-table : tie.Need-slice-aggregate-read-table
-slice-aggregate-read-table c = search needs
+slice-aggregate-decode : tie.Need-slice-aggregate-decode
+slice-aggregate-decode c = search needs
 
-slice-aggregate-read-table-2 : tie.Need-slice-aggregate-read-table-2
-slice-aggregate-read-table-2 c = search needs
+slice-aggregate-decode-2 : tie.Need-slice-aggregate-decode-2
+slice-aggregate-decode-2 c = search needs
 
-slice-aggregate-read-table-3 : tie.Need-slice-aggregate-read-table-3
-slice-aggregate-read-table-3 c = search needs
+slice-aggregate-decode-3 : tie.Need-slice-aggregate-decode-3
+slice-aggregate-decode-3 c = search needs
 
-slice-aggregate-read-table-4 : tie.Need-slice-aggregate-read-table-4
-slice-aggregate-read-table-4 c = search needs
+slice-aggregate-decode-4 : tie.Need-slice-aggregate-decode-4
+slice-aggregate-decode-4 c = search needs
 
-slice-aggregate-read-table-5 : tie.Need-slice-aggregate-read-table-5
-slice-aggregate-read-table-5 c = search needs
-
-slice-aggregate-read-table-6 : tie.Need-slice-aggregate-read-table-6
-slice-aggregate-read-table-6 c = search needs
-
-read-table-requires : tie.Need-read-table-requires
-read-table-requires c κs = search needs
-
-enum-known-r : tie.Need-enum-known-r
-enum-known-r c = search needs
+decode-requires : tie.Need-decode-requires
+decode-requires c κs = search needs
 
 array-share-prefix-ns : tie.Need-array-share-prefix-ns
-array-share-prefix-ns c = let d = c .before .before .before .before .before .before .before .before .before .read-table .ensures .accepted _ (c .before .r .given .1) .1 in omega (arith, d .within)
+array-share-prefix-ns c = search needs
 
 slice-aggregate-join : tie.Need-slice-aggregate-join
-slice-aggregate-join c = let d = c .before .before .before .before .before .before .before .before .before .before .read-table .ensures .accepted _ (c .before .before .r .given .1) .1 in sym (length-take-le _ _ (omega (arith, d .within, d .rooms .0)))
+slice-aggregate-join c = let d = c .before .before .before .before .before .decode .ensures in sym (length-take-le _ _ (omega (arith, d .within, d .rooms .0)))
 
 array-share-prefix-xs : tie.Need-array-share-prefix-xs
-array-share-prefix-xs c = let d = c .before .before .before .before .before .before .before .before .before .before .read-table .ensures .accepted _ (c .before .before .r .given .1) .1 in omega (arith, d .within)
+array-share-prefix-xs c = search needs
 
 slice-aggregate-join-2 : tie.Need-slice-aggregate-join-2
-slice-aggregate-join-2 c = let d = c .before .before .before .before .before .before .before .before .before .before .before .read-table .ensures .accepted _ (c .before .before .before .r .given .1) .1 in sym (length-take-le _ _ (omega (arith, d .within, d .rooms .1)))
+slice-aggregate-join-2 c = let d = c .before .before .before .before .before .before .decode .ensures in sym (length-take-le _ _ (omega (arith, d .within, d .rooms .1)))
 
 array-share-prefix-ys : tie.Need-array-share-prefix-ys
-array-share-prefix-ys c = let d = c .before .before .before .before .before .before .before .before .before .before .before .read-table .ensures .accepted _ (c .before .before .before .r .given .1) .1 in omega (arith, d .within)
+array-share-prefix-ys c = search needs
 
 slice-aggregate-join-3 : tie.Need-slice-aggregate-join-3
-slice-aggregate-join-3 c = let d = c .before .before .before .before .before .before .before .before .before .before .before .before .read-table .ensures .accepted _ (c .before .before .before .before .r .given .1) .1 in sym (length-take-le _ _ (omega (arith, d .within, d .rooms .2)))
+slice-aggregate-join-3 c = let d = c .before .before .before .before .before .before .before .decode .ensures in sym (length-take-le _ _ (omega (arith, d .within, d .rooms .2)))
 
 array-share-prefix-ks : tie.Need-array-share-prefix-ks
-array-share-prefix-ks c = let d = c .before .before .before .before .before .before .before .before .before .before .before .before .read-table .ensures .accepted _ (c .before .before .before .before .r .given .1) .1 in omega (arith, d .within)
+array-share-prefix-ks c = search needs
 
 slice-aggregate-join-4 : tie.Need-slice-aggregate-join-4
-slice-aggregate-join-4 c = let d = c .before .before .before .before .before .before .before .before .before .before .before .before .before .read-table .ensures .accepted _ (c .before .before .before .before .before .r .given .1) .1 in sym (length-take-le _ _ (omega (arith, d .within, d .rooms .3)))
+slice-aggregate-join-4 c = let d = c .before .before .before .before .before .before .before .before .decode .ensures in sym (length-take-le _ _ (omega (arith, d .within, d .rooms .3)))
 
 join-requires : tie.Need-join-requires
 join-requires c κs =
-    let g = c .before .before .before .before .before .before .before .before .before .before .before .before .before .before .before .before .before .read-table .ensures .accepted _ (c .before .before .before .before .before .before .before .before .before .r .given .1) in
-    let start = c .before .before .before .before .before .before .before .before .before .before .before .before .before .before .before .before .before .before .before .before .before .before .before .before .before .before .before .before .before .before .before in
-    let p = start .pre in
-    (p .0, (decoded-fit _ _ _ _ _ _ (g .1) (record { bytes = bytes-known (start .args .b .now) (c .before .before .before .before .before .before .before .before .before .before .before .before .before .before .before .before .before .before .before .before .before .before .before .before .before .before .before .before .shared-slice-known3 .given); size = p .1 .0; faultless = g .0 }), p .1 .1))
-
-enum-known-r-2 : tie.Need-enum-known-r-2
-enum-known-r-2 c = search needs
+    let p = c .before .before .before .before .before .before .before .before .before .before .before .before .before .before .before .before .before .before .before .before .before .before .before .before .pre in
+    let b = c .before .before .before .before .before .before .before .before .before .before .before .before .before .before .before .before .before .before .before .before .before .before .before .before .args .b .now in
+    (p .0, (decoded-fit _ _ _ _ _ _ (c .before .before .before .before .before .before .before .before .before .before .before .before .decode .ensures) (record { bytes = bytes-known b (c .before .before .before .before .before .before .before .before .before .before .before .before .before .before .before .before .before .before .before .before .before .shared-slice-known3 .given); size = p .1 .0 .0; faultless = p .1 .0 .1 }), p .1 .1))
 
 same-length : tie.Need-same-length
 same-length c = search needs
@@ -79,25 +66,17 @@ same-length-4 : tie.Need-same-length-4
 same-length-4 c = search needs
 
 returns : tie.Need-returns
-returns c =
-    let g = c .before .before .before .before .before .before .before .before .before .before .before .before .before .before .before .before .before .before .before .before .before .before .before .before .before .before .read-table .ensures .accepted _ (c .before .before .before .before .before .before .before .before .before .before .before .before .before .before .before .before .before .before .r .given .1) in
-    (g .0, rw (decoded-nodes _ _ _ _ _ _ (g .1)) at (c .before .before .before .before .before .before .before .before .join .ensures))
-
-returns-2 : tie.Need-returns-2
-returns-2 c = c .before .before .before .before .before .before .before .before .before .read-table .ensures .refused _ (c .before .r2 .given .1)
+returns c = rw (decoded-nodes _ _ _ _ _ _ (c .before .before .before .before .before .before .before .before .before .before .before .before .before .before .before .before .before .before .before .before .before .decode .ensures)) at (c .before .before .before .before .before .before .before .before .join .ensures)
 
 pub beside-spec : {M : Type 1} → statement M
 beside-spec =
     tie.close
     (tie.spec
-    slice-aggregate-read-table
-    slice-aggregate-read-table-2
-    slice-aggregate-read-table-3
-    slice-aggregate-read-table-4
-    slice-aggregate-read-table-5
-    slice-aggregate-read-table-6
-    read-table-requires
-    enum-known-r
+    slice-aggregate-decode
+    slice-aggregate-decode-2
+    slice-aggregate-decode-3
+    slice-aggregate-decode-4
+    decode-requires
     array-share-prefix-ns
     slice-aggregate-join
     array-share-prefix-xs
@@ -107,10 +86,8 @@ beside-spec =
     array-share-prefix-ks
     slice-aggregate-join-4
     join-requires
-    enum-known-r-2
     same-length
     same-length-2
     same-length-3
     same-length-4
-    returns
-    returns-2)
+    returns)

@@ -1,7 +1,7 @@
--- `pairing::pair::lengths_right` meets its contract: one length after the other. Assumes nothing.
-use Rattle.pairing.specs.Laws.Pair.{wrong-a, wrong-b, by-list}
-use Rattle.pairing.proofs.pair.lengths_right.Statement.{statement}
-use Rattle.pairing.proofs.pair.lengths_right.Tie as tie
+-- `pairing::verdict::lengths_right` meets its contract: one length after the other. Assumes nothing.
+use Rattle.pairing.specs.Laws.Verdicts.{wrong-a, wrong-b, by-list}
+use Rattle.pairing.proofs.verdict.lengths_right.Statement.{statement}
+use Rattle.pairing.proofs.verdict.lengths_right.Tie as tie
 
 returns : tie.Need-returns
 returns c = let x = c .before .args in wrong-a (x .a .now) (x .b .now) (x .list .now) (c .if1 .taken)

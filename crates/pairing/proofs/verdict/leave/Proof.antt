@@ -1,0 +1,17 @@
+-- `pairing::verdict::leave` meets its contract: whether anything stands from the row on. Assumes nothing.
+use mathlib.Core.Path.{sym, _∙_}
+use borrow.Author.Needs.{needs}
+use Rattle.pairing.proofs.verdict.leave.Statement.{statement}
+use Rattle.pairing.proofs.verdict.leave.Tie as tie
+
+zero-from-requires : tie.Need-zero-from-requires
+zero-from-requires c κs = search needs
+
+returns : tie.Need-returns
+returns c = rw (sym (c .before .zero-from .ensures) ∙ c .if1 .taken)
+
+returns-2 : tie.Need-returns-2
+returns-2 c = rw (sym (c .before .zero-from .ensures) ∙ c .if1 .left)
+
+pub leave-spec : {M : Type 1} → statement M
+leave-spec = tie.close (tie.spec zero-from-requires returns returns-2)
