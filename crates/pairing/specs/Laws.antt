@@ -4,3 +4,5 @@ pub mod Answers
 pub mod Verdicts
 pub mod Calls
 pub mod Spare
+pub mod Edit
+pub mod Edited

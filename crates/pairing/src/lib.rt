@@ -1,9 +1,10 @@
 // The calls on the lent bytes of a drawing. Every result is a refusal number times 65,536 plus a value; 0 is done.
 ghost use mathlib.Core.Path.{_≡_};
 ghost use mathlib.Core.List.{[], _∷_};
-ghost use Rattle.contract.specs.Definitions.Calls.{pairCall, stepCall, spareCall, bandsCall};
+ghost use Rattle.contract.specs.Definitions.Calls.{pairCall, stepCall, editCall, spareCall, bandsCall};
 
 mod bands;
+mod edit;
 mod links;
 mod pair;
 mod spare;
@@ -31,6 +32,15 @@ pub extern "C" fn pairing_step(a: &[u8], b: &[u8], list: &mut [u8]) -> u32
     ensures { λ r. ⌜ record { code = r; a = now (a .entry); b = now (b .entry); list = now (list .exit); others = [] } ≡ stepCall (now (a .entry)) (now (b .entry)) (now (list .entry)) ⌝ }
 {
     let answer = step(a, b, list);
+    code(answer)
+}
+
+// Changes one table by an edit and leaves the finished list of both; its value counts the rows kept.
+#[no_mangle]
+pub extern "C" fn pairing_edit(a: &mut [u8], b: &mut [u8], list: &mut [u8], edit: &[u8]) -> u32
+    ensures { λ r. ⌜ record { code = r; a = now (a .exit); b = now (b .exit); list = now (list .exit); others = now (edit .entry) ∷ [] } ≡ editCall (now (a .entry)) (now (b .entry)) (now (list .entry)) (now (edit .entry)) ⌝ }
+{
+    let answer = edit::edit(a, b, list, edit);
     code(answer)
 }
 

@@ -34,7 +34,7 @@ no-place n (k ∷ []) (on d w) h = d h
 no-place n (k ∷ j ∷ ks) (on d w) (inl e) = d e
 no-place n (k ∷ j ∷ ks) (on d w) (inr h) = no-place n (j ∷ ks) w h
 
-done-is-none : (v : ℕ) → Among refusals (Done v) → ⊥
+pub done-is-none : (v : ℕ) → Among refusals (Done v) → ⊥
 done-is-none v = no-place 0 refusals (on (λ e. omega arith) (on (λ e. omega arith) (on (λ e. omega arith) (on (λ e. omega arith) (on (λ e. omega arith) (on (λ e. omega arith) (on (λ e. omega arith) (on (λ e. omega arith) (on (λ e. omega arith) (on (λ e. omega arith) end))))))))))
 
 early-is-none : (k : ℕ) → Among unlike (UnfinishedList k) → ⊥

@@ -1,0 +1,118 @@
+-- `pairing::edit::rewrite` meets its contract: the rows in common stay, the part from there on comes back written. Assumes nothing.
+use Prim.Native.Nat.{_*_}
+use mathlib.Core.Path.{_∙_}
+use native.Mathlib.Omega.{arith}
+use Rattle.tables.specs.Definitions.Sizes.{linkSize}
+use Rattle.tables.specs.Laws.ListRead.{bytes-known}
+use Rattle.tables.specs.Laws.ListCode.{tail-back}
+use Rattle.pairing.specs.Laws.Verdicts.{joined-long}
+use Rattle.pairing.specs.Laws.Edited.{kept-low, rewritten}
+use borrow.Author.Needs.{needs}
+use Rattle.pairing.proofs.edit.rewrite.Statement.{statement}
+use Rattle.pairing.proofs.edit.rewrite.Tie as tie
+
+slice-aggregate-links : tie.Need-slice-aggregate-links
+slice-aggregate-links c = search needs
+
+slice-aggregate-links-2 : tie.Need-slice-aggregate-links-2
+slice-aggregate-links-2 c = search needs
+
+slice-aggregate-links-3 : tie.Need-slice-aggregate-links-3
+slice-aggregate-links-3 c = search needs
+
+slice-aggregate-links-4 : tie.Need-slice-aggregate-links-4
+slice-aggregate-links-4 c = search needs
+
+links-requires : tie.Need-links-requires
+links-requires c κs = search needs
+
+slice-aggregate-common-rows : tie.Need-slice-aggregate-common-rows
+slice-aggregate-common-rows c = search needs
+
+slice-aggregate-common-rows-2 : tie.Need-slice-aggregate-common-rows-2
+slice-aggregate-common-rows-2 c = search needs
+
+slice-aggregate-common-rows-3 : tie.Need-slice-aggregate-common-rows-3
+slice-aggregate-common-rows-3 c = search needs
+
+slice-aggregate-common-rows-4 : tie.Need-slice-aggregate-common-rows-4
+slice-aggregate-common-rows-4 c = search needs
+
+common-rows-requires : tie.Need-common-rows-requires
+common-rows-requires c κs = search needs
+
+mul-at : tie.Need-mul-at
+mul-at c =
+    let x = c .before .before .before .before .before .before .before .before .before .before .before .before .before .before .before .before .before .before .before .before .before .args in
+    let j = c .before .before .before .before .before .before .before .before .before .links .ensures in
+    record { fits = omega (arith, kept-low (x .a .now) (x .b .now) (c .before .before .before .before .before .before .before .before .before .before .before .before .before .before .before .before .before .before .before .before .before .pre .0) (bytes-known (x .a .now) (c .before .before .before .before .before .before .before .before .before .before .before .before .before .before .before .before .before .before .before .before .shared-slice-known .given)) (bytes-known (x .b .now) (c .before .before .before .before .before .before .before .before .before .before .before .before .before .before .before .before .before .before .before .shared-slice-known2 .given)) (x .list .now) (x .la .now) (x .lb .now) (x .ld .now) (x .lm .now) (x .n) _ _ _ _ _ j _ (c .common-rows .ensures .0), j .most) }
+
+sub-write-links : tie.Need-sub-write-links
+sub-write-links c =
+    let x = c .before .before .before .before .before .before .before .before .before .before .before .before .before .before .before .before .before .before .before .before .before .args in
+    let j = c .before .before .before .before .before .before .before .before .before .links .ensures in
+    omega (arith, kept-low (x .a .now) (x .b .now) (c .before .before .before .before .before .before .before .before .before .before .before .before .before .before .before .before .before .before .before .before .before .pre .0) (bytes-known (x .a .now) (c .before .before .before .before .before .before .before .before .before .before .before .before .before .before .before .before .before .before .before .before .shared-slice-known .given)) (bytes-known (x .b .now) (c .before .before .before .before .before .before .before .before .before .before .before .before .before .before .before .before .before .before .before .shared-slice-known2 .given)) (x .list .now) (x .la .now) (x .lb .now) (x .ld .now) (x .lm .now) (x .n) _ _ _ _ _ j _ (c .common-rows .ensures .0), j .most, c .before .before .before .before .before .before .before .before .before .before .before .before .before .before .before .before .before .before .before .before .before .pre .1)
+
+part-write-links-start : tie.Need-part-write-links-start
+part-write-links-start c =
+    let x = c .before .before .before .before .before .before .before .before .before .before .before .before .before .before .before .before .before .before .before .before .before .args in
+    let j = c .before .before .before .before .before .before .before .before .before .links .ensures in
+    omega (arith, kept-low (x .a .now) (x .b .now) (c .before .before .before .before .before .before .before .before .before .before .before .before .before .before .before .before .before .before .before .before .before .pre .0) (bytes-known (x .a .now) (c .before .before .before .before .before .before .before .before .before .before .before .before .before .before .before .before .before .before .before .before .shared-slice-known .given)) (bytes-known (x .b .now) (c .before .before .before .before .before .before .before .before .before .before .before .before .before .before .before .before .before .before .before .shared-slice-known2 .given)) (x .list .now) (x .la .now) (x .lb .now) (x .ld .now) (x .lm .now) (x .n) _ _ _ _ _ j _ (c .common-rows .ensures .0), j .most, c .before .before .before .before .before .before .before .before .before .before .before .before .before .before .before .before .before .before .before .before .before .pre .1)
+
+part-write-links-end : tie.Need-part-write-links-end
+part-write-links-end c = search needs
+
+slice-aggregate-write-links : tie.Need-slice-aggregate-write-links
+slice-aggregate-write-links c = search needs
+
+slice-aggregate-write-links-2 : tie.Need-slice-aggregate-write-links-2
+slice-aggregate-write-links-2 c = search needs
+
+slice-aggregate-write-links-3 : tie.Need-slice-aggregate-write-links-3
+slice-aggregate-write-links-3 c = search needs
+
+slice-aggregate-write-links-4 : tie.Need-slice-aggregate-write-links-4
+slice-aggregate-write-links-4 c = search needs
+
+write-links-requires : tie.Need-write-links-requires
+write-links-requires c κs =
+    let x = c .before .before .before .before .before .before .before .before .before .before .before .before .before .before .before .before .before .before .before .before .before .before .before .before .before .before .args in
+    let j = c .before .before .before .before .before .before .before .before .before .before .before .before .before .before .links .ensures in
+    let k = kept-low (x .a .now) (x .b .now) (c .before .before .before .before .before .before .before .before .before .before .before .before .before .before .before .before .before .before .before .before .before .before .before .before .before .before .pre .0) (bytes-known (x .a .now) (c .before .before .before .before .before .before .before .before .before .before .before .before .before .before .before .before .before .before .before .before .before .before .before .before .before .shared-slice-known .given)) (bytes-known (x .b .now) (c .before .before .before .before .before .before .before .before .before .before .before .before .before .before .before .before .before .before .before .before .before .before .before .before .shared-slice-known2 .given)) (x .list .now) (x .la .now) (x .lb .now) (x .ld .now) (x .lm .now) (x .n) _ _ _ _ _ j _ (c .before .before .before .before .before .common-rows .ensures .0) in
+    ((omega (arith, k, j .most, c .before .before .before .before .before .before .before .before .before .before .before .before .before .before .before .before .before .before .before .before .before .before .before .before .before .before .pre .1), k, j .most), joined-long (x .a .now) (x .b .now) (c .before .before .before .before .before .before .before .before .before .before .before .before .before .before .before .before .before .before .before .before .before .before .before .before .before .before .pre .0) (bytes-known (x .a .now) (c .before .before .before .before .before .before .before .before .before .before .before .before .before .before .before .before .before .before .before .before .before .before .before .before .before .shared-slice-known .given)) (bytes-known (x .b .now) (c .before .before .before .before .before .before .before .before .before .before .before .before .before .before .before .before .before .before .before .before .before .before .before .before .shared-slice-known2 .given)) (x .list .now) _ _ _ _ _ j)
+
+same-length : tie.Need-same-length
+same-length c = search needs
+
+returns : tie.Need-returns
+returns c =
+    let x = c .before .before .before .before .before .before .before .before .before .before .before .before .before .before .before .before .before .before .before .before .before .before .before .before .before .before .before .before .before .args in
+    let j = c .before .before .before .before .before .before .before .before .before .before .before .before .before .before .before .before .before .links .ensures in
+    let k = kept-low (x .a .now) (x .b .now) (c .before .before .before .before .before .before .before .before .before .before .before .before .before .before .before .before .before .before .before .before .before .before .before .before .before .before .before .before .before .pre .0) (bytes-known (x .a .now) (c .before .before .before .before .before .before .before .before .before .before .before .before .before .before .before .before .before .before .before .before .before .before .before .before .before .before .before .before .shared-slice-known .given)) (bytes-known (x .b .now) (c .before .before .before .before .before .before .before .before .before .before .before .before .before .before .before .before .before .before .before .before .before .before .before .before .before .before .before .shared-slice-known2 .given)) (x .list .now) (x .la .now) (x .lb .now) (x .ld .now) (x .lm .now) (x .n) _ _ _ _ _ j _ (c .before .before .before .before .before .before .before .before .common-rows .ensures .0) in
+    rewritten (x .a .now) (x .b .now) (c .before .before .before .before .before .before .before .before .before .before .before .before .before .before .before .before .before .before .before .before .before .before .before .before .before .before .before .before .before .pre .0) (bytes-known (x .a .now) (c .before .before .before .before .before .before .before .before .before .before .before .before .before .before .before .before .before .before .before .before .before .before .before .before .before .before .before .before .shared-slice-known .given)) (bytes-known (x .b .now) (c .before .before .before .before .before .before .before .before .before .before .before .before .before .before .before .before .before .before .before .before .before .before .before .before .before .before .before .shared-slice-known2 .given)) (x .list .now) (x .la .now) (x .lb .now) (x .ld .now) (x .lm .now) (x .n) _ _ _ _ _ j _ (c .before .before .before .before .before .before .before .before .common-rows .ensures .0) _ _ (c .before .before .write-links .ensures) (tail-back (linkSize * (c .before .before .before .before .before .before .before .before .common-rows .result)) (x .list .now) _ (omega (arith, k, j .most, c .before .before .before .before .before .before .before .before .before .before .before .before .before .before .before .before .before .before .before .before .before .before .before .before .before .before .before .before .before .pre .1)))
+
+pub rewrite-spec : {M : Type 1} → statement M
+rewrite-spec =
+    tie.close
+    (tie.spec
+    slice-aggregate-links
+    slice-aggregate-links-2
+    slice-aggregate-links-3
+    slice-aggregate-links-4
+    links-requires
+    slice-aggregate-common-rows
+    slice-aggregate-common-rows-2
+    slice-aggregate-common-rows-3
+    slice-aggregate-common-rows-4
+    common-rows-requires
+    mul-at
+    sub-write-links
+    part-write-links-start
+    part-write-links-end
+    slice-aggregate-write-links
+    slice-aggregate-write-links-2
+    slice-aggregate-write-links-3
+    slice-aggregate-write-links-4
+    write-links-requires
+    same-length
+    returns)
