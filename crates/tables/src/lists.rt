@@ -1,8 +1,7 @@
 // The link list: columns of links to its bytes, and its bytes to columns.
 ghost use Prim.Native.Nat.{_+_, _*_, _-_, _≤_};
 ghost use mathlib.Core.Path.{_≡_};
-ghost use mathlib.Core.List.{_++_};
-ghost use lib.ListN.{length, take, drop};
+ghost use lib.ListN.{length, drop};
 ghost use Rattle.matching.specs.Definitions.Columns.{linkAt, tabulate, linksOf};
 ghost use Rattle.tables.specs.Definitions.Sizes.{linkSize, linkRows, listSize};
 ghost use Rattle.tables.specs.Definitions.Rows.{flat, put};
@@ -75,24 +74,6 @@ pub fn write_links(
 {
     put_rows(part, la, lb, ld, lm, from, n);
     put_zeros(part, LINK * (n - from));
-}
-
-// The rows before `from` stay; the part from there on is handed on and written anew.
-pub fn write_list(
-    list: &mut [u8],
-    la: &[u32],
-    lb: &[u32],
-    ld: &[u32],
-    lm: &[u32],
-    from: usize,
-    n: usize,
-)
-    requires { ⌜ (length (now list) ≡ listSize) × (from ≤ n) × (n ≤ linkRows) ⌝ }
-    requires { ⌜ Long (now la) (now lb) (now ld) (now lm) n ⌝ }
-    ensures { λ _. ⌜ now (list .exit) ≡ take (linkSize * from) (now (list .entry)) ++ drop (linkSize * from) (listBytes (linksOf (now (la .entry)) (now (lb .entry)) (now (ld .entry)) (now (lm .entry)) n)) ⌝ }
-{
-    let at = LINK * from;
-    write_links(&mut list[at..], la, lb, ld, lm, from, n);
 }
 
 // The links of a list into columns, up to the first row without an A number; their count.
