@@ -8,8 +8,6 @@ use model::generate::random::Random;
 use model::rows::{Edit, Node};
 use model::sizes::*;
 
-use crate::singles::worsen;
-
 /// Tries at an edit that not every drawing allows.
 const TRIES: usize = 8;
 
@@ -67,22 +65,41 @@ fn edit_for(random: &mut Random, drawing: &Drawing, number: u32, kind: u64) -> O
     Some(edit.bytes().to_vec())
 }
 
-/// An edit that is refused with this number, often with other faults behind that place.
+/// An edit that is refused with this number, often bad at later places too.
 fn bad(random: &mut Random, number: u32, a: &[Node], b: &[Node]) -> Option<Edit> {
+    if number < 9 && random.once_in(2) {
+        return spoiled(random, number, a, b);
+    }
     let kinds: Vec<BadEdit> = BAD_EDITS
         .into_iter()
         .filter(|bad| bad.refusal().number() == number)
         .collect();
-    let mut edit = (0..TRIES).find_map(|_| {
+    (0..TRIES).find_map(|_| {
         let kind = random.pick(&kinds);
         bad_edit(random, kind, a, b)
+    })
+}
+
+/// An edit of a node that it may not name, or into a full master, made worse at this number's place and perhaps at
+/// those between.
+fn spoiled(random: &mut Random, number: u32, a: &[Node], b: &[Node]) -> Option<Edit> {
+    let mut edit = (0..TRIES).find_map(|_| {
+        let bad = random.pick(&[BadEdit::Presence, BadEdit::Full]);
+        bad_edit(random, bad, a, b)
     })?;
-    if number == 6 && random.once_in(2) {
-        edit.kind = random.unsigned(KIND_CAPACITY + 1, EDIT_KIND.greatest());
+    if number == 8 || random.once_in(2) {
+        match random.below(4) {
+            0 => edit.number = 0,
+            1 => edit.horizontal = bad_position(random),
+            2 => edit.vertical = bad_position(random),
+            _ => edit.capacity = random.pick(&[CAPACITY_MAX + 1, EDIT_CAPACITY.greatest()]),
+        }
     }
-    let nodes = if edit.master == MASTER_A { a } else { b };
-    if number < 9 {
-        worsen(random, &mut edit, number, nodes);
+    if number == 7 || (number < 7 && random.once_in(2)) {
+        edit.master = random.unsigned(MASTER_B + 1, EDIT_MASTER.greatest());
+    }
+    if number == 6 {
+        edit.kind = random.unsigned(KIND_CAPACITY + 1, EDIT_KIND.greatest());
     }
     Some(edit)
 }

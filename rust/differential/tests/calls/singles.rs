@@ -4,11 +4,10 @@
 use model::calls;
 use model::generate::damage::*;
 use model::generate::drawing::{Drawing, Size};
-use model::generate::edits::{unknown_number, KINDS};
+use model::generate::edits::KINDS;
 use model::generate::lengths::wrong_lend;
 use model::generate::random::Random;
 use model::report::POSSIBLE;
-use model::rows::{Edit, Node};
 use model::sizes::*;
 
 use crate::judge::{judge, Case, Mismatch};
@@ -195,7 +194,8 @@ fn stray(random: &mut Random, list: &mut [u8]) {
 
 /// One or more buffers of the call with a wrong length.
 fn lend_wrongly(random: &mut Random, case: &mut Case) {
-    let mut which = random.size(1, 15);
+    let any = random.size(1, 15);
+    let mut which = random.pick(&[1, 2, 4, 8, any]);
     if which & 8 != 0 && !resize_own_buffer(random, &mut case.request) && which == 8 {
         which = random.size(1, 7);
     }
@@ -233,20 +233,4 @@ pub fn run_shared(random: &mut Random, tally: &mut Tally) -> Result<(), Box<Mism
         }
     }
     Ok(())
-}
-
-/// An edit made worse at places behind the one that it is to be refused at.
-pub fn worsen(random: &mut Random, edit: &mut Edit, number: u32, nodes: &[Node]) {
-    if is_bad(random, 7, number) {
-        edit.master = random.unsigned(MASTER_B + 1, EDIT_MASTER.greatest());
-    }
-    if number < 8 && is_bad(random, 8, number) {
-        edit.number = 0;
-    }
-    if number < 8 && is_bad(random, 8, number) {
-        edit.vertical = POSITION_MAX + 1;
-    }
-    if number < 9 && edit.number != 0 && is_bad(random, 9, number) {
-        edit.number = unknown_number(random, nodes);
-    }
 }
