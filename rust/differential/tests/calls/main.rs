@@ -12,7 +12,7 @@ mod worlds;
 
 use std::env;
 use std::panic::resume_unwind;
-use std::sync::atomic::{AtomicU64, Ordering};
+use std::sync::atomic::{AtomicU64, AtomicUsize, Ordering};
 use std::thread;
 use std::time::{Duration, Instant, SystemTime};
 
@@ -25,7 +25,7 @@ use worlds::WORLDS;
 /// Seeds of the gate's run, from 0.
 const SEEDS: u64 = 5_100;
 /// Calls of a history, and of one on a great drawing, where the model is slow.
-const CALLS: usize = 30;
+const CALLS: usize = 40;
 const GREAT_CALLS: usize = 16;
 /// So many mismatches end a run.
 const ENOUGH: usize = 5;
@@ -71,30 +71,37 @@ where
     (tally, wrong)
 }
 
-/// Runs seeds one after the other for as long as there is one.
-fn run_seeds(next: impl Fn() -> Option<u64>, tally: &mut Tally, wrong: &mut Vec<String>) {
-    while let (Some(seed), true) = (next(), wrong.len() < ENOUGH) {
-        if let Err(mismatch) = run_seed(seed, tally) {
-            wrong.push(format!("seed {seed:#x}: {mismatch}"));
-            println!("{}", wrong[wrong.len() - 1]);
-        }
+/// Prints a mismatch at once, and keeps it.
+fn note(wrong: &mut Vec<String>, place: String, outcome: Result<(), Box<Mismatch>>) {
+    if let Err(mismatch) = outcome {
+        println!("{place}: {mismatch}");
+        wrong.push(place);
     }
 }
 
-fn run_worlds(next: &AtomicU64, tally: &mut Tally, wrong: &mut Vec<String>) {
-    let lights = WORLDS.iter().flat_map(|world| {
+/// Runs seeds one after the other for as long as there is one.
+fn run_seeds(next: impl Fn() -> Option<u64>, tally: &mut Tally, wrong: &mut Vec<String>) {
+    while wrong.len() < ENOUGH {
+        let Some(seed) = next() else { return };
+        let outcome = run_seed(seed, tally);
+        note(wrong, format!("seed {seed:#x}"), outcome);
+    }
+}
+
+/// Runs the tiny worlds, an A of theirs at a time.
+fn run_worlds(next: impl Fn() -> usize, tally: &mut Tally, wrong: &mut Vec<String>) {
+    let all = WORLDS.iter().flat_map(|world| {
         let lights = world.lights().into_iter();
         lights.map(move |a| (world, a))
     });
-    let lights: Vec<_> = lights.collect();
-    while let (Some((world, a)), true) = (
-        lights.get(next.fetch_add(1, Ordering::Relaxed) as usize),
-        wrong.len() < ENOUGH,
-    ) {
-        if let Err(mismatch) = world.run(a, tally) {
-            wrong.push(format!("in a tiny world: {mismatch}"));
-            println!("{}", wrong[wrong.len() - 1]);
-        }
+    let all: Vec<_> = all.collect();
+    while wrong.len() < ENOUGH {
+        let place = next();
+        let Some((world, a)) = all.get(place) else {
+            return;
+        };
+        let outcome = world.run(a, tally);
+        note(wrong, format!("tiny world, A {place}"), outcome);
     }
 }
 
@@ -108,21 +115,31 @@ fn asked_seed() -> Option<u64> {
 #[test]
 fn as_the_model() {
     if let Some(seed) = asked_seed() {
-        let mismatch = run_seed(seed, &mut Tally::default()).err();
-        return assert!(mismatch.is_none(), "{}", mismatch.unwrap());
+        let outcome = run_seed(seed, &mut Tally::default());
+        let mut wrong = Vec::new();
+        note(&mut wrong, format!("seed {seed:#x}"), outcome);
+        return assert!(wrong.is_empty());
     }
-    let (seeds, places) = (AtomicU64::new(0), AtomicU64::new(0));
+    let seeds = AtomicU64::new(0);
     let next = || Some(seeds.fetch_add(1, Ordering::Relaxed)).filter(|seed| *seed < SEEDS);
-    let (tally, wrong) = on_all_processors(|tally, wrong| {
-        run_seeds(next, tally, wrong);
-        run_worlds(&places, tally, wrong);
-    });
+    let (tally, wrong) = on_all_processors(|tally, wrong| run_seeds(next, tally, wrong));
     println!("{tally}");
     assert!(wrong.is_empty(), "mismatches: {}", wrong.len());
     assert_eq!(tally.rare(), [], "cells that were met too rarely");
     assert_eq!(tally.kinds_missed(), [], "kinds never done at full size");
     assert!(tally.calls() >= 200_000);
     assert!(2 * tally.done() >= tally.calls());
+}
+
+#[test]
+fn tiny_worlds() {
+    let places = AtomicUsize::new(0);
+    let next = || places.fetch_add(1, Ordering::Relaxed);
+    let (tally, wrong) = on_all_processors(|tally, wrong| run_worlds(next, tally, wrong));
+    let (calls, done) = (tally.calls(), tally.done());
+    println!("calls in tiny worlds: {calls}, of these done: {done}");
+    assert!(wrong.is_empty(), "mismatches: {}", wrong.len());
+    assert!(done >= 100_000);
 }
 
 /// The same with fresh seeds, for FUZZ_SECONDS: `make fuzz SECONDS=n`.
