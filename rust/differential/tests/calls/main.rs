@@ -156,7 +156,7 @@ fn fuzz() {
     println!("{tally}");
     println!("fuzz: {seconds} seconds, seeds from {first:#x}");
     println!("calls {}, mismatches {}", tally.calls(), wrong.len());
-    assert!(wrong.is_empty());
+    assert!(wrong.is_empty(), "PAIRING_SEED=.. runs one of {wrong:?}");
 }
 
 /// The classes and the plan of seeds fit together.
