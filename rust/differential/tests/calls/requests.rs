@@ -12,19 +12,19 @@ use model::sizes::*;
 const TRIES: usize = 8;
 
 /// A request of this call that passes every place up to this number's, and is refused there if the number is one of
-/// the edit's place. An edit that passes all is of this kind, if the drawing allows it.
+/// the edit's place. If it is to arrive, an edit that passes all is an arrival.
 pub fn request(
     random: &mut Random,
     drawing: &Drawing,
     call: &'static str,
     number: u32,
-    kind: u64,
+    arrives: bool,
 ) -> Option<Request> {
     Some(match call {
         "Pair" => Request::Pair,
         "Step" => Request::Step,
         "Edit" => Request::Edit {
-            edit: edit_for(random, drawing, number, kind)?,
+            edit: edit_for(random, drawing, number, arrives)?,
         },
         "Spare" => spare_for(random, drawing, number)?,
         _ => Request::Bands {
@@ -44,25 +44,33 @@ pub fn resize_own_buffer(random: &mut Random, request: &mut Request) -> bool {
     true
 }
 
-fn edit_for(random: &mut Random, drawing: &Drawing, number: u32, kind: u64) -> Option<Vec<u8>> {
+fn edit_for(random: &mut Random, drawing: &Drawing, number: u32, arrives: bool) -> Option<Vec<u8>> {
     let (a, b) = (&drawing.a[..], &drawing.b[..]);
     let edit = match number {
-        0 => (0..TRIES).find_map(|_| {
-            let kind = match kind {
-                KIND_ARRIVAL => kind,
-                _ => random.pick(&KINDS),
-            };
-            good_edit(random, kind, a, b)
-        })?,
-        6..=10 => bad(random, number, a, b)?,
-        // Refused ahead of the edit's place: anything.
-        _ if random.once_in(3) => return Some(random.bytes(EDIT_BYTES)),
-        _ => {
-            let number = random.pick(&[6, 7, 8, 9]);
-            bad(random, number, a, b)?
-        }
+        0 => good(random, arrives, a, b),
+        6..=10 => bad(random, number, a, b),
+        // Refused ahead of the edit's place: most often an edit that would be done.
+        _ => match random.below(4) {
+            0 => return Some(random.bytes(EDIT_BYTES)),
+            1 => {
+                let number = random.pick(&[6, 7, 8, 9]);
+                bad(random, number, a, b)
+            }
+            _ => good(random, arrives, a, b),
+        },
     };
-    Some(edit.bytes().to_vec())
+    Some(edit?.bytes().to_vec())
+}
+
+/// An edit that will be done, of any kind or an arrival.
+fn good(random: &mut Random, arrives: bool, a: &[Node], b: &[Node]) -> Option<Edit> {
+    (0..TRIES).find_map(|_| {
+        let kind = match arrives {
+            true => KIND_ARRIVAL,
+            false => random.pick(&KINDS),
+        };
+        good_edit(random, kind, a, b)
+    })
 }
 
 /// An edit that is refused with this number, often bad at later places too.
@@ -119,6 +127,7 @@ fn spare_for(random: &mut Random, drawing: &Drawing, number: u32) -> Option<Requ
         9 => unknown_number(random, nodes),
         0 if nodes.is_empty() => return None,
         0 => random.pick(nodes).number,
+        1..=5 if !nodes.is_empty() && random.once_in(2) => random.pick(nodes).number,
         _ => random.pick(&[0, NUMBER_MIN, NUMBER_MAX]),
     };
     if number == 7 {

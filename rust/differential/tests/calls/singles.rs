@@ -45,8 +45,8 @@ fn draw(random: &mut Random, wanted: Class) -> Drawing {
 }
 
 /// A drawing with its tables and its finished list.
-pub struct Held {
-    pub drawing: Drawing,
+struct Held {
+    drawing: Drawing,
     a: Vec<u8>,
     b: Vec<u8>,
     list: Vec<u8>,
@@ -98,8 +98,7 @@ pub fn run(random: &mut Random, wanted: Class, tally: &mut Tally) -> Result<(), 
                 _ => None,
             };
             let held = other.as_ref().unwrap_or(&held);
-            let kind = if arrives { KIND_ARRIVAL } else { KIND_MOVE };
-            if let Some(case) = case(random, held, call, *number, kind) {
+            if let Some(case) = case(random, held, call, *number, arrives) {
                 judge(random, &case, tally)?;
             }
         }
@@ -128,13 +127,13 @@ fn case(
     held: &Held,
     call: &'static str,
     number: u32,
-    kind: u64,
+    arrives: bool,
 ) -> Option<Case> {
     let mut case = Case {
         a: held.a.clone(),
         b: held.b.clone(),
         list: held.list.clone(),
-        request: request(random, &held.drawing, call, number, kind)?,
+        request: request(random, &held.drawing, call, number, arrives)?,
         shared: false,
         nodes: (held.drawing.a.len(), held.drawing.b.len()),
     };
@@ -221,7 +220,7 @@ pub fn run_shared(random: &mut Random, tally: &mut Tally) -> Result<(), Box<Mism
             if call == "Edit" || [1, 3].contains(number) {
                 continue;
             }
-            if let Some(case) = case(random, &held, call, *number, KIND_MOVE) {
+            if let Some(case) = case(random, &held, call, *number, false) {
                 let b = case.a.clone();
                 let shared = Case {
                     b,
