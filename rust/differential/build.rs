@@ -1,12 +1,12 @@
-//! Links the archives that `rt staticlib` writes; tools/gate makes them before the tests run.
+//! Links the archive that `rt staticlib pairing` writes; tools/gate makes it before the tests run.
 
 fn main() {
     let root = std::path::Path::new(env!("CARGO_MANIFEST_DIR")).join("../..");
     let archives = root.join("target/staticlib");
     println!("cargo:rustc-link-search=native={}", archives.display());
-    for crate_name in ["pairing", "probe"] {
-        let archive = archives.join(format!("lib{crate_name}.a"));
-        println!("cargo:rerun-if-changed={}", archive.display());
-        println!("cargo:rustc-link-lib=static={crate_name}");
-    }
+    println!(
+        "cargo:rerun-if-changed={}",
+        archives.join("libpairing.a").display()
+    );
+    println!("cargo:rustc-link-lib=static=pairing");
 }

@@ -1,19 +1,21 @@
-//! The time of reading a sound table of 512 rows.
+//! The time of a Pair that reads a sound table of 512 rows and has nobody to pair it with.
 
 use std::time::Instant;
 
-use differential::read_table;
+use differential::pair;
 use model::generate::drawing::{Drawing, Size};
 use model::generate::random::Random;
+use model::sizes::{LIST_BYTES, TABLE_BYTES};
 
 fn main() {
     let drawing = Drawing::random(&mut Random::new(1), Size::Full);
-    let table = drawing.table_a();
+    let (table, empty) = (drawing.table_a(), vec![0; TABLE_BYTES]);
+    let mut list = vec![0; LIST_BYTES];
     let mut best = f64::MAX;
     for _ in 0..200 {
         let start = Instant::now();
         for _ in 0..100 {
-            std::hint::black_box(read_table(std::hint::black_box(&table)));
+            std::hint::black_box(pair(std::hint::black_box(&table), &empty, &mut list));
         }
         best = best.min(start.elapsed().as_secs_f64() / 100.0);
     }

@@ -1,46 +1,63 @@
-//! Verdicts on tables: sound ones of every family, damaged ones of every kind, random bytes, wrong lengths.
+//! Verdicts on tables, through Pair: sound ones of every size, damaged ones of every kind, random bytes, wrong lengths.
 
-use differential::{read_table, Reading};
+use differential::pair;
+use model::answer::answer_of;
 use model::buffers::{first_faulty_row, nodes_of};
 use model::generate::damage::{damage_table, damage_table_often, TABLE_FAULTS};
 use model::generate::drawing::{Drawing, SIZES};
 use model::generate::lengths::wrong_length;
 use model::generate::random::Random;
 use model::report::hex;
-use model::sizes::TABLE_BYTES;
+use model::sizes::*;
 
-fn expected(table: &[u8]) -> Reading {
+/// The answer where this table stands in a master's place, refused with this number if it is faulty. The other
+/// master is empty, so that there is no link.
+fn expected(table: &[u8], number: u32) -> u32 {
     if table.len() != TABLE_BYTES {
-        return Reading::WrongLength;
+        return answer_of(1, 0);
     }
     match first_faulty_row(table) {
-        Some(row) => Reading::Fault(row),
-        None => Reading::Nodes(nodes_of(table).len()),
+        Some(row) => answer_of(number, row as u32),
+        None => 0,
     }
 }
 
+/// Pair with the table as A, then as B: the answer is the right one, and only a done call writes.
 fn compare(table: &[u8], seed: u64, what: &str) {
-    assert_eq!(
-        read_table(table),
-        expected(table),
-        "seed {seed:#x}, {what}: {}",
-        hex(table)
-    );
+    let empty = vec![0; TABLE_BYTES];
+    for (number, a, b) in [(2, table, &empty[..]), (3, &empty[..], table)] {
+        let (mut list, right) = (vec![0xa5; LIST_BYTES], expected(table, number));
+        let answer = pair(a, b, &mut list);
+        let byte = if right == 0 { 0 } else { 0xa5 };
+        assert!(
+            answer == right && list.iter().all(|other| *other == byte),
+            "seed {seed:#x}, {what}: answer {answer:#x}, not {right:#x}, list {}, table {}",
+            hex(&list),
+            hex(table)
+        );
+    }
 }
 
 #[test]
 fn sound_tables() {
-    let mut tables = 0;
+    let mut by_nodes = [0; 3];
     for seed in 0..1_000 {
         let mut random = Random::new(seed);
         for size in SIZES {
             let drawing = Drawing::random(&mut random, size);
-            compare(&drawing.table_a(), seed, "sound");
-            compare(&drawing.table_b(), seed, "sound");
-            tables += 2;
+            for table in [drawing.table_a(), drawing.table_b()] {
+                assert_eq!(first_faulty_row(&table), None, "model, seed {seed:#x}");
+                compare(&table, seed, "sound");
+                by_nodes[match nodes_of(&table).len() {
+                    0 => 0,
+                    TABLE_ROWS => 2,
+                    _ => 1,
+                }] += 1;
+            }
         }
     }
-    println!("sound tables: {tables}");
+    println!("sound tables, empty, in between and full: {by_nodes:?}");
+    assert!(by_nodes.iter().all(|&times| times >= 100));
 }
 
 #[test]
@@ -54,12 +71,9 @@ fn damaged_tables() {
         for (kind, fault) in TABLE_FAULTS.into_iter().enumerate() {
             let mut damaged = table.clone();
             if let Some(row) = damage_table(&mut random, &mut damaged, fault) {
-                assert_eq!(
-                    read_table(&damaged),
-                    Reading::Fault(row),
-                    "seed {seed:#x}: {}",
-                    hex(&damaged)
-                );
+                // How the damage was done tells the row, not a search for it.
+                assert_eq!(first_faulty_row(&damaged), Some(row), "model, {seed:#x}");
+                compare(&damaged, seed, &format!("{fault:?}"));
                 met[kind] += 1;
             }
         }
