@@ -13,8 +13,8 @@ use Rattle.matching.specs.Theorems.Mutual.{puts}
 use Rattle.join.specs.declared.chain.Move.{Move}
 use Rattle.join.specs.declared.chain.Move.the-variants.{Stop, Push, Take}
 use Rattle.join.specs.declared.chain.State.{State}
-use Rattle.join.specs.Rows.{Rows, size, gap, Faces, between, rest, Sound}
-use Rattle.join.specs.Live.{Live}
+use Rattle.join.specs.Rows.{Rows, size, from, to, gap, Faces, between, rest, Sound}
+use Rattle.join.specs.Live.{Lists, Sized, Live}
 use Rattle.join.specs.Contract.{Room}
 use Rattle.join.specs.Nearest.{Nearest, Chosen}
 use Rattle.join.specs.Order.{Table, linksIn, stored}
@@ -81,15 +81,15 @@ module _ (R : Rows) where
   whole left L n = puts (linksIn L n) (rest R left)
 
   -- The rows, the lists of those that have something left, and the chain.
-  pub record Ready (left live chain : List ℕ) (s : State) : Type 0 where
+  pub record Ready (left : List ℕ) (Q : Lists) (chain : List ℕ) (s : State) : Type 0 where
     pub sound : Sound R left
-    pub len-live : length live ≡ size R
-    pub lists : (m : Master) → Live R left live m (each (s .a) (s .b) m)
+    pub sized : Sized Q (size R)
+    pub lists : (m : Master) → Live (R .ns) (R .xs) (R .ys) left Q (from R m) (to R m) (each (s .a) (s .b) m)
     pub path : Chain R left chain (s .depth)
 
   -- The state of a run.
-  pub record Good (left live chain : List ℕ) (L : Table) (s : State) : Type 0 where
-    pub ready : Ready left live chain s
+  pub record Good (left : List ℕ) (Q : Lists) (chain : List ℕ) (L : Table) (s : State) : Type 0 where
+    pub ready : Ready left Q chain s
     pub room : Room (L .la) (L .lb) (L .ld) (L .lm)
     pub count : s .links + length (rest R left) ≤ 1023
 
@@ -98,8 +98,8 @@ module _ (R : Rows) where
   toGo left s = length (rest R left) * 2048 + (1025 - s .depth) + bit (s .more)
 
   -- What a step does.
-  pub record Stepped (left : List ℕ) (L : Table) (s : State) (left' live' chain' : List ℕ) (L' : Table) (r : State) : Type 0 where
-    pub good : Good left' live' chain' L' r
+  pub record Stepped (left : List ℕ) (L : Table) (s : State) (left' : List ℕ) (Q' : Lists) (chain' : List ℕ) (L' : Table) (r : State) : Type 0 where
+    pub good : Good left' Q' chain' L' r
     pub same : whole left' L' (r .links) ≡ whole left L (s .links)
     pub falls : toGo left' r < toGo left s
     pub ends : r .more ≡ false → rest R left' ≡ []

@@ -32,6 +32,10 @@ pub fn join(
     let mut ys = [0i16; 1024];
     let mut left = [0u32; 1024];
     let mut live = [0usize; 1024];
+    let mut spot = [0usize; 1024];
+    let mut kn = [0u32; 1024];
+    let mut kx = [0i16; 1024];
+    let mut ky = [0i16; 1024];
     let mut chain = [0usize; 1025];
     rows::fill(
         an,
@@ -46,7 +50,6 @@ pub fn join(
         &mut xs,
         &mut ys,
         &mut left,
-        &mut live,
     );
     let size = an.len() + bn.len();
     let n = chain::pick(
@@ -56,6 +59,10 @@ pub fn join(
         &ys[..size],
         &mut left[..size],
         &mut live[..size],
+        &mut spot[..size],
+        &mut kn[..size],
+        &mut kx[..size],
+        &mut ky[..size],
         &mut chain,
         la,
         lb,
