@@ -7,4 +7,6 @@ pub mod Chain
 pub mod Decide
 pub mod Step
 pub mod Order
+pub mod Merge
+pub mod Runs
 pub mod Load
