@@ -9,6 +9,7 @@ use lib.IntN.{ℤ, pos}
 use Rattle.matching.specs.Definitions.Pairs.{Pair, squaredDistance}
 use Rattle.matching.specs.Laws.Earliest.{Leq}
 use Rattle.join.specs.declared.nearest.Near.{Near}
+use Rattle.join.specs.Sizes.{numberRange}
 use Rattle.join.specs.Rows.{Rows, Placed, gap, Faces, between}
 
 -- Distance, then number: the pair order of two pairs that share a node.
@@ -21,8 +22,8 @@ nearer s c k = cond (ltb c (s .key)) (record { key = c; at = k }) s
 
 -- A distance above a number of four bytes: the order of such keys is that of the distances, then of the numbers.
 pub record Packed (d n r : ℕ) : Type 0 where
-  pub is : r ≡ d * 4294967296 + n
-  pub small : n < 4294967296
+  pub is : r ≡ d * numberRange + n
+  pub small : n < numberRange
 
 -- From place first to place end rows are listed, one at least.
 pub record Listing (kn : List ℕ) (kx ky : List ℤ) (first end : ℕ) : Type 0 where
@@ -44,7 +45,7 @@ module _ (xs ys : List ℤ) (kn : List ℕ) (kx ky : List ℤ) where
     pub low : first ≤ s .at
     pub high : s .at < end
     pub is : Keyed t (s .at) (s .key)
-    pub least : (k : ℕ) → first ≤ k → k < end → (s .key ≤ across xs ys kx ky t k * 4294967296 + getD kn k 0) × (getD kn k 0 < 4294967296)
+    pub least : (k : ℕ) → first ≤ k → k < end → (s .key ≤ across xs ys kx ky t k * numberRange + getD kn k 0) × (getD kn k 0 < numberRange)
 
   -- What is known of t's partner: a row of A is seen from B's and the other way round.
   pub record Partner (split a b t : ℕ) (s : Near) : Type 0 where

@@ -7,6 +7,7 @@ ghost use mathlib.Core.Bool.{true};
 ghost use Prim.Native.Nat.{ℕ, _+_, _<_, _≤_, min};
 ghost use lib.ListN.{length, getD};
 ghost use Rattle.join.specs.Contract.{Room};
+ghost use Rattle.join.specs.Sizes.{chainRows};
 ghost use Rattle.join.specs.Rows.{rows, Sound};
 ghost use Rattle.join.specs.Live.{lists, Sized};
 ghost use Rattle.join.specs.Order.{table, Has};
@@ -187,7 +188,7 @@ pub fn pick(
     ld: &mut [u32],
     lm: &mut [u32],
 ) -> usize
-    requires { ⌜ Sound (rows (now ns) (now xs) (now ys) split) (now left) × (length (now chain) ≡ 1025) × Room (now la) (now lb) (now ld) (now lm) ⌝ }
+    requires { ⌜ Sound (rows (now ns) (now xs) (now ys) split) (now left) × (length (now chain) ≡ chainRows) × Room (now la) (now lb) (now ld) (now lm) ⌝ }
     requires { ⌜ Sized (lists (now live) (now spot) (now kn) (now kx) (now ky)) (length (now ns)) ⌝ }
     ensures { λ r. ⌜ Picked (rows (now (ns .entry)) (now (xs .entry)) (now (ys .entry)) split) (now (left .entry)) (table (now (la .exit)) (now (lb .exit)) (now (ld .exit)) (now (lm .exit))) r ⌝ }
 {

@@ -1,7 +1,9 @@
 // The row nearest to a row among the other master's listed rows, by one scan.
+use crate::sizes;
 ghost use mathlib.Core.Path.{_≡_};
 ghost use Prim.Native.Nat.{_<_, _/_};
 ghost use lib.ListN.{length};
+ghost use Rattle.join.specs.Sizes.{numberRange};
 ghost use Rattle.join.specs.Rows.{Placed};
 ghost use Rattle.join.specs.Nearest.{across, Packed, Keyed, nearer, Listing, Seen, Partner};
 
@@ -23,7 +25,7 @@ fn apart(t: usize, k: usize, xs: &[i16], ys: &[i16], kx: &[i16], ky: &[i16]) -> 
 fn pack(d: u32, n: u32) -> u64
     ensures { λ r. ⌜ Packed d n r ⌝ }
 {
-    (d as u64) * 4294967296 + (n as u64)
+    (d as u64) * sizes::RANGE + (n as u64)
 }
 
 // The key of place k as seen from row t.
@@ -93,7 +95,7 @@ pub fn partner(
 
 // The distance in a key.
 pub fn distance(key: u64) -> u32
-    ensures { λ r. ⌜ r ≡ key / 4294967296 ⌝ }
+    ensures { λ r. ⌜ r ≡ key / numberRange ⌝ }
 {
-    (key / 4294967296) as u32
+    (key / sizes::RANGE) as u32
 }

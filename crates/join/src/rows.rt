@@ -2,6 +2,7 @@
 ghost use mathlib.Core.Path.{_≡_};
 ghost use Prim.Native.Nat.{_+_, _-_, _<_, _≤_};
 ghost use lib.ListN.{length, getD};
+ghost use Rattle.join.specs.Sizes.{tableRows};
 ghost use Rattle.join.specs.Rows.{Full, Loaded, Filled, Columns};
 ghost use Rattle.join.specs.Contract.{Fit};
 ghost use Rattle.join.specs.Live.{lists, entered, Sized, Noted, Gathered, Refreshed};
@@ -19,7 +20,7 @@ fn load(
     left: &mut [u32],
 )
     requires { ⌜ (length (now ax) ≡ length (now an)) × (length (now ay) ≡ length (now an)) × (length (now ac) ≡ length (now an)) ⌝ }
-    requires { ⌜ Full (now ns) (now xs) (now ys) (now left) × (at + length (now an) ≤ 1024) ⌝ }
+    requires { ⌜ Full (now ns) (now xs) (now ys) (now left) × (at + length (now an) ≤ tableRows) ⌝ }
     ensures { λ _. ⌜ Loaded (now (an .entry)) (now (ax .entry)) (now (ay .entry)) (now (ac .entry)) at (now (ns .entry)) (now (xs .entry)) (now (ys .entry)) (now (left .entry)) (now (ns .exit)) (now (xs .exit)) (now (ys .exit)) (now (left .exit)) ⌝ }
 {
     let mut k = 0;

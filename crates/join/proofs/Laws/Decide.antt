@@ -8,11 +8,12 @@ use lib.ListN.{length, getD}
 use Rattle.matching.specs.Definitions.Nodes.{Master, masterA, masterB, each}
 use Rattle.join.specs.declared.nearest.Near.{Near}
 use Rattle.join.specs.declared.chain.State.{State}
+use Rattle.join.specs.Sizes.{numberRange}
 use Rattle.join.specs.Rows.{Placed, Rows, size, from, to, rest}
 use Rattle.join.specs.Live.{Lists, rowAt}
 use Rattle.join.specs.Nearest.{Listing, Partner, Chosen}
 use Rattle.join.specs.Chain.{Pushed, Ready}
-use Rattle.join.proofs.Laws.Live.{none-left}
+use Rattle.join.proofs.Laws.Refresh.{none-left}
 use Rattle.join.proofs.Laws.Nearest.{chosen}
 use Rattle.join.proofs.Laws.Pairs.{placed}
 
@@ -71,9 +72,9 @@ module _ (R : Rows) (left : List ℕ) (Q : Lists) (chain : List ℕ) (s : State)
         go (yes l) = omega (arith, p .onto-b l .high, r .lists masterB .high)
         go (no l) = omega (arith, p .onto-a (omega arith) .high, r .lists masterA .high, ends masterA)
 
-    pub top-chosen : (w : Near) → Partner (R .xs) (R .ys) (Q .kn) (Q .kx) (Q .ky) (R .split) (s .a) (s .b) top w → Chosen R left top (rowAt Q (w .at)) (w .key / 4294967296)
+    pub top-chosen : (w : Near) → Partner (R .xs) (R .ys) (Q .kn) (Q .kx) (Q .ky) (R .split) (s .a) (s .b) top w → Chosen R left top (rowAt Q (w .at)) (w .key / numberRange)
     top-chosen w p = go (decLt top (R .split))
       where
-        go : Dec (top < R .split) → Chosen R left top (rowAt Q (w .at)) (w .key / 4294967296)
+        go : Dec (top < R .split) → Chosen R left top (rowAt Q (w .at)) (w .key / numberRange)
         go (yes l) = chosen R left Q masterA top (s .b) w (omega arith, l) (r .lists masterB) (p .onto-b l)
         go (no l) = chosen R left Q masterB top (s .a) w (omega arith, top-low) (r .lists masterA) (p .onto-a (omega arith))

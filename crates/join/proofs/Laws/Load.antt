@@ -12,6 +12,7 @@ use Rattle.matching.specs.Definitions.Nodes.{Master, masterA, masterB, Node, Un
 use Rattle.matching.specs.Definitions.Join.{join}
 use Rattle.matching.specs.Definitions.Columns.{tabulate, nodeAt, nodesOf, Inside}
 use Rattle.matching.specs.Laws.Columns.{nodes-length, nodes-get, same-place}
+use Rattle.join.specs.Sizes.{tableRows}
 use Rattle.join.specs.Rows.{Columns, Rows, rows, size, On, rest, Sound, Full, Loaded, Filled}
 use Rattle.join.specs.Live.{lists, Sized}
 use Rattle.join.specs.Contract.{Fit}
@@ -42,7 +43,7 @@ module _ (an : List ℕ) (ax ay : List ℤ) (ac : List ℕ) (at : ℕ) (ns₀ : 
     pub full-now : Full ns₀ xs₀ ys₀ left₀ → Full ns xs ys left
     full-now f = record { in-n = l .in-n ∙ f .in-n; in-x = l .in-x ∙ f .in-x; in-y = l .in-y ∙ f .in-y; in-left = l .in-left ∙ f .in-left }
 
-    pub loading-on : Full ns₀ xs₀ ys₀ left₀ → at + length an ≤ 1024 → k < length an
+    pub loading-on : Full ns₀ xs₀ ys₀ left₀ → at + length an ≤ tableRows → k < length an
         → Loading (set ns (at + k) (getD an k 0)) (set xs (at + k) (getD ax k (pos 0))) (set ys (at + k) (getD ay k (pos 0))) (set left (at + k) (getD ac k 0)) (k + 1)
     loading-on full0 fits h = record {
       count = omega arith;
@@ -132,7 +133,7 @@ module _ (an : List ℕ) (ax ay : List ℤ) (ac bn : List ℕ) (bx by : List ℤ
   abbrev node : ℕ → Node
   node = nodeAt (take n ns) (take n xs) (take n ys) (take n left)
 
-  len : {X : Type 0} (l : List X) → length l ≡ 1024 → length (take n l) ≡ n
+  len : {X : Type 0} (l : List X) → length l ≡ tableRows → length (take n l) ≡ n
   len l e = length-take-le n l (omega (arith, fa .most, fb .most))
 
   part : (k : ℕ) → k < n → node k ≡ nodeAt ns xs ys left k
@@ -169,7 +170,7 @@ module _ (an : List ℕ) (ax ay : List ℤ) (ac bn : List ℕ) (bx by : List ℤ
   rest-join = λ t. join (nodes-of an ax ay ac 0 node row-a (length an - 0) (omega arith) t) (nodes-of bn bx by bc (length an) node row-b (size R - length an) (omega (arith, len ns (full .in-n))) t)
 
   -- Other columns of the table's size have as many places.
-  pub sized : (live spot kn : List ℕ) (kx ky : List ℤ) → length live ≡ 1024 → length spot ≡ 1024 → length kn ≡ 1024 → length kx ≡ 1024 → length ky ≡ 1024
+  pub sized : (live spot kn : List ℕ) (kx ky : List ℤ) → length live ≡ tableRows → length spot ≡ tableRows → length kn ≡ tableRows → length kx ≡ tableRows → length ky ≡ tableRows
       → Sized (lists (take n live) (take n spot) (take n kn) (take n kx) (take n ky)) (size R)
   sized live spot kn kx ky a b c d e =
       let f = sym (len ns (full .in-n)) in

@@ -13,6 +13,7 @@ use Rattle.matching.specs.Definitions.Nodes.{Master, masterA, masterB}
 use Rattle.matching.specs.Definitions.Pairs.{squaredDistance}
 use Rattle.matching.specs.Laws.Earliest.{Leq}
 use Rattle.join.specs.declared.nearest.Near.{Near}
+use Rattle.join.specs.Sizes.{numberRange}
 use Rattle.join.specs.Rows.{Rows, gap, other, from, to, On, Faces, faces, between}
 use Rattle.join.specs.Live.{Lists, rowAt, spotOf, Holds, Live}
 use Rattle.join.specs.Nearest.{key, nearer, across, Packed, Keyed, Seen, Chosen}
@@ -20,7 +21,7 @@ use Rattle.join.proofs.Laws.Pairs.{closer, leq-packed}
 
 module _ (xs ys : List ℤ) (kn : List ℕ) (kx ky : List ℤ) (t first : ℕ) where
   abbrev least : ℕ → ℕ → Type 0
-  least c k = (c ≤ across xs ys kx ky t k * 4294967296 + getD kn k 0) × (getD kn k 0 < 4294967296)
+  least c k = (c ≤ across xs ys kx ky t k * numberRange + getD kn k 0) × (getD kn k 0 < numberRange)
 
   pub seen-start : (c : ℕ) → Keyed xs ys kn kx ky t first c → Seen xs ys kn kx ky t first (first + 1) (record { key = c; at = first })
   seen-start c p = record { low = omega arith; high = omega arith; is = p; least = λ k a b. go k (omega arith) }
@@ -55,7 +56,7 @@ across-gap R Q t k h = ap₂ (squaredDistance (getD (R .xs) t (pos 0)) (getD (R 
 
 -- A search through the other master's list finds the nearest row.
 pub chosen : (R : Rows) (left : List ℕ) (Q : Lists) (s : Master) (t e : ℕ) (w : Near) → On R s t → Live (R .ns) (R .xs) (R .ys) left Q (from R (other s)) (to R (other s)) e
-    → Seen (R .xs) (R .ys) (Q .kn) (Q .kx) (Q .ky) t (from R (other s)) e w → Chosen R left t (rowAt Q (w .at)) (w .key / 4294967296)
+    → Seen (R .xs) (R .ys) (Q .kn) (Q .kx) (Q .ky) t (from R (other s)) e w → Chosen R left t (rowAt Q (w .at)) (w .key / numberRange)
 chosen R left Q s t e w h l v = record {
   faces = faces s h (l .on (w .at) (v .low) (v .high));
   alive = l .alive (w .at) (v .low) (v .high);

@@ -16,6 +16,7 @@ use Rattle.matching.specs.Definitions.Pairs.{Pair, square, Before, nearer, lowe
 use Rattle.matching.specs.Laws.Distance.{abs-neg}
 use Rattle.matching.specs.Laws.Order.{before-trans, before-irrefl}
 use Rattle.matching.specs.Laws.Earliest.{Leq, strictly, equally}
+use Rattle.join.specs.Sizes.{numberRange}
 use Rattle.join.specs.Rows.{Columns, Placed, Rows, gap, On, Faces, faces, rowPair, between, Sound}
 use Rattle.join.specs.Nearest.{key}
 
@@ -46,7 +47,7 @@ shared masterA d n e m z (equally f) = equally (ap (λ (q : Pair). record { dist
 shared masterB d n e m z (equally f) = equally (ap (λ (q : Pair). record { distance = q .distance; a = q .a; b = z }) f)
 
 -- Packed keys are in the order of distances, then of numbers.
-pub leq-packed : (d n e m : ℕ) → n < 4294967296 → m < 4294967296 → d * 4294967296 + n ≤ e * 4294967296 + m → Leq (key d n) (key e m)
+pub leq-packed : (d n e m : ℕ) → n < numberRange → m < numberRange → d * numberRange + n ≤ e * numberRange + m → Leq (key d n) (key e m)
 leq-packed d n e m a b h = go (decLt d e) (decLt n m)
   where
     go : Dec (d < e) → Dec (n < m) → Leq (key d n) (key e m)

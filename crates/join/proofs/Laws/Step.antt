@@ -10,13 +10,15 @@ use Rattle.matching.specs.Definitions.Links.{Link}
 use Rattle.matching.specs.Laws.Columns.{links-more}
 use Rattle.matching.specs.Theorems.Mutual.{putLink, put-length, puts, puts-snoc}
 use Rattle.join.specs.declared.chain.State.{State}
+use Rattle.join.specs.Sizes.{chainRows}
 use Rattle.join.specs.Rows.{Rows, size, from, to, On, Faces, faces, rest, Sound}
 use Rattle.join.specs.Live.{Lists, Sized, rowAt, spotOf, Same, Elsewhere, Live, Gathered, Refreshed}
 use Rattle.join.specs.Contract.{Room}
 use Rattle.join.specs.Order.{Table, linksIn, stored, Has}
 use Rattle.join.specs.Chain.{Pushed, Mutually, Trimmed, Taken, bit, whole, Ready, Good, Stepped}
 use Rattle.join.proofs.Laws.Rest.{rest-count, off-rows, lose-le, rest-take}
-use Rattle.join.proofs.Laws.Live.{same-refl, live-same, may-refresh, refreshed}
+use Rattle.join.proofs.Laws.Live.{same-refl, live-same}
+use Rattle.join.proofs.Laws.Refresh.{may-refresh, refreshed}
 use Rattle.join.proofs.Laws.Chain.{room, push, cut}
 
 true-false : {A : Type 0} → true ≡ false → A
@@ -186,7 +188,7 @@ module _ (R : Rows) (left : List ℕ) (Q : Lists) (chain : List ℕ) (L : Table)
 
 -- A run begins with an empty chain, no link, and the rows that have something left listed.
 pub good-start : (R : Rows) (left : List ℕ) (Q P O : Lists) (chain : List ℕ) (L : Table) (a b : ℕ) → Sound R left → Sized O (size R)
-    → Gathered (R .ns) (R .xs) (R .ys) left 0 (R .split) Q P a → Gathered (R .ns) (R .xs) (R .ys) left (R .split) (size R) P O b → length chain ≡ 1025 → Room (L .la) (L .lb) (L .ld) (L .lm)
+    → Gathered (R .ns) (R .xs) (R .ys) left 0 (R .split) Q P a → Gathered (R .ns) (R .xs) (R .ys) left (R .split) (size R) P O b → length chain ≡ chainRows → Room (L .la) (L .lb) (L .ld) (L .lm)
     → Good R left O chain L (record { depth = 0; links = 0; a = a; b = b; more = true })
 good-start R left Q P O chain L a b v z ga gb e w = record {
   ready = record {

@@ -5,6 +5,7 @@ use native.Mathlib.Omega.{arith}
 use lib.ListN.{length}
 use lib.Seq.{length-take-le}
 use borrow.Author.Needs.{needs}
+use Rattle.join.specs.Sizes.{tableRows}
 use Rattle.join.specs.Rows.{Full}
 use Rattle.join.proofs.Laws.Load.{sound, rest-join, sized}
 use Rattle.join.proofs.join.Statement.{statement}
@@ -17,7 +18,7 @@ full c =
     record { in-n = k .0; in-x = k .1 .0; in-y = k .1 .1 .0; in-left = k .1 .1 .1 .0 }
 
 -- and both masters fit in it
-small : (s : tie.Start) → length (s .args .an .now) + length (s .args .bn .now) ≤ 1024
+small : (s : tie.Start) → length (s .args .an .now) + length (s .args .bn .now) ≤ tableRows
 small s = omega (arith, s .pre .0 .most, s .pre .1 .0 .most)
 
 slice-aggregate-fill : tie.Need-slice-aggregate-fill
