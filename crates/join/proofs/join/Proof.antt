@@ -105,7 +105,7 @@ pick-requires c κs =
     )
 
 arrange-requires : tie.Need-arrange-requires
-arrange-requires c κs = let p = c .before .before .before .before .before .before .before .before .before .before .before .before .before .before .before .before .before .before .before .pick .ensures in (record { in-a = omega (arith, p .room .in-a, p .most); in-b = omega (arith, p .room .in-b, p .most); in-d = omega (arith, p .room .in-d, p .most); in-m = omega (arith, p .room .in-m, p .most) }, p .most)
+arrange-requires c κs = let p = c .before .before .before .before .before .before .before .before .before .before .before .before .before .before .before .before .before .before .before .pick .ensures in (record { in-a = omega (arith, p .room .in-a, p .most); in-b = omega (arith, p .room .in-b, p .most); in-d = omega (arith, p .room .in-d, p .most); in-m = omega (arith, p .room .in-m, p .most) }, omega (arith, p .most))
 
 same-length : tie.Need-same-length
 same-length c = c .before .before .before .before .before .before .before .before .arrange .kept .0 ∙ c .before .before .before .before .before .before .before .before .before .before .before .before .before .before .before .before .before .before .before .before .before .before .before .before .before .before .before .before .pick .kept .1 .1 .1 .1 .1 .1 .1 .1 .1 .1 .1 .0
