@@ -2,9 +2,12 @@
 pub mod Pairs
 pub mod Rest
 pub mod Live
+pub mod Refresh
 pub mod Nearest
 pub mod Chain
 pub mod Decide
 pub mod Step
 pub mod Order
+pub mod Merge
+pub mod Runs
 pub mod Load

@@ -13,8 +13,9 @@ use Rattle.matching.specs.Theorems.Mutual.{puts}
 use Rattle.join.specs.declared.chain.Move.{Move}
 use Rattle.join.specs.declared.chain.Move.the-variants.{Stop, Push, Take}
 use Rattle.join.specs.declared.chain.State.{State}
-use Rattle.join.specs.Rows.{Rows, size, gap, Faces, between, rest, Sound}
-use Rattle.join.specs.Live.{Live}
+use Rattle.join.specs.Sizes.{linkRows, chainRows}
+use Rattle.join.specs.Rows.{Rows, size, from, to, gap, Faces, between, rest, Sound}
+use Rattle.join.specs.Live.{Lists, Sized, Live}
 use Rattle.join.specs.Contract.{Room}
 use Rattle.join.specs.Nearest.{Nearest, Chosen}
 use Rattle.join.specs.Order.{Table, linksIn, stored}
@@ -27,7 +28,7 @@ module _ (R : Rows) (left chain : List ℕ) (n : ℕ) where
   -- A chain of n rows: each has something left and the next as its nearest; the pairs along it come ever earlier.
   -- So no row stands in it twice, and 1,025 places are room enough.
   pub record Chain : Type 0 where
-    pub room : length chain ≡ 1025
+    pub room : length chain ≡ chainRows
     pub inside : (h : ℕ) → h < n → at h < size R
     pub alive : (h : ℕ) → h < n → 1 ≤ getD left (at h) 0
     pub facing : (h : ℕ) → h + 1 < n → Faces R (at h) (at (h + 1))
@@ -81,31 +82,31 @@ module _ (R : Rows) where
   whole left L n = puts (linksIn L n) (rest R left)
 
   -- The rows, the lists of those that have something left, and the chain.
-  pub record Ready (left live chain : List ℕ) (s : State) : Type 0 where
+  pub record Ready (left : List ℕ) (Q : Lists) (chain : List ℕ) (s : State) : Type 0 where
     pub sound : Sound R left
-    pub len-live : length live ≡ size R
-    pub lists : (m : Master) → Live R left live m (each (s .a) (s .b) m)
+    pub sized : Sized Q (size R)
+    pub lists : (m : Master) → Live (R .ns) (R .xs) (R .ys) left Q (from R m) (to R m) (each (s .a) (s .b) m)
     pub path : Chain R left chain (s .depth)
 
   -- The state of a run.
-  pub record Good (left live chain : List ℕ) (L : Table) (s : State) : Type 0 where
-    pub ready : Ready left live chain s
+  pub record Good (left : List ℕ) (Q : Lists) (chain : List ℕ) (L : Table) (s : State) : Type 0 where
+    pub ready : Ready left Q chain s
     pub room : Room (L .la) (L .lb) (L .ld) (L .lm)
-    pub count : s .links + length (rest R left) ≤ 1023
+    pub count : s .links + length (rest R left) ≤ linkRows
 
   -- What falls with each step: the links to come, then the room on the chain.
   abbrev pub toGo : List ℕ → State → ℕ
-  toGo left s = length (rest R left) * 2048 + (1025 - s .depth) + bit (s .more)
+  toGo left s = length (rest R left) * (chainRows + 2) + (chainRows - s .depth) + bit (s .more)
 
   -- What a step does.
-  pub record Stepped (left : List ℕ) (L : Table) (s : State) (left' live' chain' : List ℕ) (L' : Table) (r : State) : Type 0 where
-    pub good : Good left' live' chain' L' r
+  pub record Stepped (left : List ℕ) (L : Table) (s : State) (left' : List ℕ) (Q' : Lists) (chain' : List ℕ) (L' : Table) (r : State) : Type 0 where
+    pub good : Good left' Q' chain' L' r
     pub same : whole left' L' (r .links) ≡ whole left L (s .links)
     pub falls : toGo left' r < toGo left s
     pub ends : r .more ≡ false → rest R left' ≡ []
 
   -- All pairs are taken: the n links written, each put in at its place, are those that were to be taken.
   pub record Picked (left : List ℕ) (L : Table) (n : ℕ) : Type 0 where
-    pub most : n ≤ 1023
+    pub most : n ≤ linkRows
     pub room : Room (L .la) (L .lb) (L .ld) (L .lm)
     pub all : puts (linksIn L n) [] ≡ rest R left

@@ -1,4 +1,5 @@
 -- What the contracts of this crate cite. A caller needs Contract alone.
+pub mod Sizes
 pub mod Rows
 pub mod Contract
 pub mod Live

@@ -11,6 +11,7 @@ use Rattle.matching.specs.Definitions.Pairs.{Pair, squaredDistance}
 use Rattle.matching.specs.Definitions.Links.{Link}
 use Rattle.matching.specs.Definitions.Join.{join}
 use Rattle.matching.specs.Definitions.Columns.{tabulate, nodeAt, Inside}
+use Rattle.join.specs.Sizes.{tableRows}
 
 -- Columns of numbers and positions, of one length, with every position inside.
 pub record Columns (ns : List ℕ) (xs ys : List ℤ) : Type 0 where
@@ -87,26 +88,22 @@ module _ (R : Rows) where
     pub columns : Columns (R .ns) (R .xs) (R .ys)
     pub len-c : length left ≡ size
     pub parts : R .split ≤ size
-    pub most : size ≤ 1024
+    pub most : size ≤ tableRows
     pub distinct : (s : Master) (i k : ℕ) → On s i → On s k → getD (R .ns) i 0 ≡ getD (R .ns) k 0 → i ≡ k
 
--- The table and its list have 1,024 rows.
-pub record Full (ns : List ℕ) (xs ys : List ℤ) (left live : List ℕ) : Type 0 where
-  pub in-n : length ns ≡ 1024
-  pub in-x : length xs ≡ 1024
-  pub in-y : length ys ≡ 1024
-  pub in-left : length left ≡ 1024
-  pub in-live : length live ≡ 1024
+-- The table has 1,024 rows.
+pub record Full (ns : List ℕ) (xs ys : List ℤ) (left : List ℕ) : Type 0 where
+  pub in-n : length ns ≡ tableRows
+  pub in-x : length xs ≡ tableRows
+  pub in-y : length ys ≡ tableRows
+  pub in-left : length left ≡ tableRows
 
--- A master's columns stand in the rows from at on, and these rows are listed; what stood before them is as it was.
-pub record Loaded (an : List ℕ) (ax ay : List ℤ) (ac : List ℕ) (at : ℕ) (ns : List ℕ) (xs ys : List ℤ) (left live ns' : List ℕ) (xs' ys' : List ℤ) (left' live' : List ℕ) : Type 0 where
+-- A master's columns stand in the rows from at on; what stood before them is as it was.
+pub record Loaded (an : List ℕ) (ax ay : List ℤ) (ac : List ℕ) (at : ℕ) (ns : List ℕ) (xs ys : List ℤ) (left ns' : List ℕ) (xs' ys' : List ℤ) (left' : List ℕ) : Type 0 where
   pub here : (k : ℕ) → k < length an → nodeAt ns' xs' ys' left' (at + k) ≡ nodeAt an ax ay ac k
   pub ahead : (k : ℕ) → k < at → nodeAt ns' xs' ys' left' k ≡ nodeAt ns xs ys left k
-  pub lists : (k : ℕ) → k < length an → getD live' (at + k) 0 ≡ at + k
-  pub before : (k : ℕ) → k < at → getD live' k 0 ≡ getD live k 0
 
--- Both masters' columns stand in the rows, A's first, and each row is listed in its own place.
-pub record Filled (an : List ℕ) (ax ay : List ℤ) (ac bn : List ℕ) (bx by : List ℤ) (bc ns : List ℕ) (xs ys : List ℤ) (left live : List ℕ) : Type 0 where
+-- Both masters' columns stand in the rows, A's first.
+pub record Filled (an : List ℕ) (ax ay : List ℤ) (ac bn : List ℕ) (bx by : List ℤ) (bc ns : List ℕ) (xs ys : List ℤ) (left : List ℕ) : Type 0 where
   pub row-a : (k : ℕ) → k < length an → nodeAt ns xs ys left k ≡ nodeAt an ax ay ac k
   pub row-b : (k : ℕ) → k < length bn → nodeAt ns xs ys left (length an + k) ≡ nodeAt bn bx by bc k
-  pub own : (k : ℕ) → k < length an + length bn → getD live k 0 ≡ k

@@ -7,7 +7,9 @@ ghost use mathlib.Core.Bool.{true};
 ghost use Prim.Native.Nat.{ℕ, _+_, _<_, _≤_, min};
 ghost use lib.ListN.{length, getD};
 ghost use Rattle.join.specs.Contract.{Room};
+ghost use Rattle.join.specs.Sizes.{chainRows};
 ghost use Rattle.join.specs.Rows.{rows, Sound};
+ghost use Rattle.join.specs.Live.{lists, Sized};
 ghost use Rattle.join.specs.Order.{table, Has};
 ghost use Rattle.join.specs.Chain.{sides, Ready, Decided, Trimmed, Taken, Good, Stepped, Picked};
 
@@ -37,18 +39,22 @@ fn sided(t: usize, w: usize, d: u32, split: usize) -> Move
     Move::Take(w, t, d)
 }
 
-// The top's nearest row is pushed, unless it is the row below the top: then their pair is taken. (`left` serves the contract alone.)
+// The top's nearest row is pushed, unless it is the row below the top: then their pair is taken. (`ns`, `left` and `spot` serve the contract alone.)
 fn decide(
     s: State,
     split: usize,
-    live: &[usize],
-    chain: &[usize],
     ns: &[u32],
     xs: &[i16],
     ys: &[i16],
     left: &[u32],
+    live: &[usize],
+    spot: &[usize],
+    kn: &[u32],
+    kx: &[i16],
+    ky: &[i16],
+    chain: &[usize],
 ) -> Move
-    requires { ⌜ Ready (rows (now ns) (now xs) (now ys) split) (now left) (now live) (now chain) s ⌝ }
+    requires { ⌜ Ready (rows (now ns) (now xs) (now ys) split) (now left) (lists (now live) (now spot) (now kn) (now kx) (now ky)) (now chain) s ⌝ }
     ensures { λ r. ⌜ Decided (rows (now (ns .entry)) (now (xs .entry)) (now (ys .entry)) split) (now (left .entry)) (now (chain .entry)) (s .depth) r ⌝ }
 {
     let depth = s.depth;
@@ -64,11 +70,12 @@ fn decide(
         return Move::Push(live[0]);
     }
     let t = chain[depth - 1];
-    let w = nearest::partner(t, split, a, b, live, ns, xs, ys);
-    let at = w.at;
+    let w = nearest::partner(t, split, a, b, xs, ys, kn, kx, ky);
+    let place = w.at;
+    let at = live[place];
     if depth > 1 {
         if chain[depth - 2] == at {
-            return sided(t, at, w.d, split);
+            return sided(t, at, nearest::distance(w.key), split);
         }
     }
     Move::Push(at)
@@ -127,18 +134,22 @@ fn step(
     ys: &[i16],
     left: &mut [u32],
     live: &mut [usize],
+    spot: &mut [usize],
+    kn: &mut [u32],
+    kx: &mut [i16],
+    ky: &mut [i16],
     chain: &mut [usize],
     la: &mut [u32],
     lb: &mut [u32],
     ld: &mut [u32],
     lm: &mut [u32],
 ) -> State
-    requires { ⌜ Good (rows (now ns) (now xs) (now ys) split) (now left) (now live) (now chain) (table (now la) (now lb) (now ld) (now lm)) s × (s .more ≡ true) ⌝ }
-    ensures { λ r. ⌜ Stepped (rows (now (ns .entry)) (now (xs .entry)) (now (ys .entry)) split) (now (left .entry)) (table (now (la .entry)) (now (lb .entry)) (now (ld .entry)) (now (lm .entry))) s (now (left .exit)) (now (live .exit)) (now (chain .exit)) (table (now (la .exit)) (now (lb .exit)) (now (ld .exit)) (now (lm .exit))) r ⌝ }
+    requires { ⌜ Good (rows (now ns) (now xs) (now ys) split) (now left) (lists (now live) (now spot) (now kn) (now kx) (now ky)) (now chain) (table (now la) (now lb) (now ld) (now lm)) s × (s .more ≡ true) ⌝ }
+    ensures { λ r. ⌜ Stepped (rows (now (ns .entry)) (now (xs .entry)) (now (ys .entry)) split) (now (left .entry)) (table (now (la .entry)) (now (lb .entry)) (now (ld .entry)) (now (lm .entry))) s (now (left .exit)) (lists (now (live .exit)) (now (spot .exit)) (now (kn .exit)) (now (kx .exit)) (now (ky .exit))) (now (chain .exit)) (table (now (la .exit)) (now (lb .exit)) (now (ld .exit)) (now (lm .exit))) r ⌝ }
 {
     let depth = s.depth;
     let n = s.links;
-    let m = decide(s, split, live, chain, ns, xs, ys, left);
+    let m = decide(s, split, ns, xs, ys, left, live, spot, kn, kx, ky, chain);
     let mut r = s;
     match m {
         Move::Stop => {
@@ -152,8 +163,8 @@ fn step(
             take(i, j, d, n, ns, left, la, lb, ld, lm);
             r.depth = trim(depth, chain, left);
             r.links = n + 1;
-            r.a = rows::refresh(i, 0, s.a, left, live);
-            r.b = rows::refresh(j, split, s.b, left, live);
+            r.a = rows::refresh(i, s.a, ns, xs, ys, left, live, spot, kn, kx, ky);
+            r.b = rows::refresh(j, s.b, ns, xs, ys, left, live, spot, kn, kx, ky);
         },
     }
     r
@@ -167,18 +178,22 @@ pub fn pick(
     ys: &[i16],
     left: &mut [u32],
     live: &mut [usize],
+    spot: &mut [usize],
+    kn: &mut [u32],
+    kx: &mut [i16],
+    ky: &mut [i16],
     chain: &mut [usize],
     la: &mut [u32],
     lb: &mut [u32],
     ld: &mut [u32],
     lm: &mut [u32],
 ) -> usize
-    requires { ⌜ Sound (rows (now ns) (now xs) (now ys) split) (now left) × (length (now chain) ≡ 1025) × Room (now la) (now lb) (now ld) (now lm) ⌝ }
-    requires { ⌜ (length (now live) ≡ length (now ns)) × ((k : ℕ) → k < length (now ns) → getD (now live) k 0 ≡ k) ⌝ }
+    requires { ⌜ Sound (rows (now ns) (now xs) (now ys) split) (now left) × (length (now chain) ≡ chainRows) × Room (now la) (now lb) (now ld) (now lm) ⌝ }
+    requires { ⌜ Sized (lists (now live) (now spot) (now kn) (now kx) (now ky)) (length (now ns)) ⌝ }
     ensures { λ r. ⌜ Picked (rows (now (ns .entry)) (now (xs .entry)) (now (ys .entry)) split) (now (left .entry)) (table (now (la .exit)) (now (lb .exit)) (now (ld .exit)) (now (lm .exit))) r ⌝ }
 {
-    let a = rows::keep(0, split, left, live);
-    let b = rows::keep(split, ns.len(), left, live);
+    let a = rows::gather(0, split, ns, xs, ys, left, live, spot, kn, kx, ky);
+    let b = rows::gather(split, ns.len(), ns, xs, ys, left, live, spot, kn, kx, ky);
     let mut s = State {
         depth: 0,
         links: 0,
@@ -187,7 +202,24 @@ pub fn pick(
         more: true,
     };
     while s.more {
-        s = step(s, split, ns, xs, ys, left, live, chain, la, lb, ld, lm);
+        s = step(
+            s,
+            split,
+            ns,
+            xs,
+            ys,
+            left,
+            live,
+            spot,
+            kn,
+            kx,
+            ky,
+            chain,
+            la,
+            lb,
+            ld,
+            lm,
+        );
     }
     s.links
 }

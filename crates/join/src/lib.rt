@@ -3,6 +3,7 @@ mod chain;
 mod nearest;
 mod order;
 mod rows;
+mod sizes;
 
 ghost use Rattle.matching.specs.Definitions.Columns.{nodesOf};
 ghost use Rattle.join.specs.Contract.{Fit, Room, Joined};
@@ -27,12 +28,16 @@ pub fn join(
     requires { ⌜ Room (now la) (now lb) (now ld) (now lm) ⌝ }
     ensures { λ r. ⌜ Joined (nodesOf (now (an .entry)) (now (ax .entry)) (now (ay .entry)) (now (ac .entry))) (nodesOf (now (bn .entry)) (now (bx .entry)) (now (by .entry)) (now (bc .entry))) (now (la .exit)) (now (lb .exit)) (now (ld .exit)) (now (lm .exit)) r ⌝ }
 {
-    let mut ns = [0u32; 1024];
-    let mut xs = [0i16; 1024];
-    let mut ys = [0i16; 1024];
-    let mut left = [0u32; 1024];
-    let mut live = [0usize; 1024];
-    let mut chain = [0usize; 1025];
+    let mut ns = [0u32; sizes::ROWS];
+    let mut xs = [0i16; sizes::ROWS];
+    let mut ys = [0i16; sizes::ROWS];
+    let mut left = [0u32; sizes::ROWS];
+    let mut live = [0usize; sizes::ROWS];
+    let mut spot = [0usize; sizes::ROWS];
+    let mut kn = [0u32; sizes::ROWS];
+    let mut kx = [0i16; sizes::ROWS];
+    let mut ky = [0i16; sizes::ROWS];
+    let mut chain = [0usize; sizes::CHAIN];
     rows::fill(
         an,
         ax,
@@ -46,7 +51,6 @@ pub fn join(
         &mut xs,
         &mut ys,
         &mut left,
-        &mut live,
     );
     let size = an.len() + bn.len();
     let n = chain::pick(
@@ -56,6 +60,10 @@ pub fn join(
         &ys[..size],
         &mut left[..size],
         &mut live[..size],
+        &mut spot[..size],
+        &mut kn[..size],
+        &mut kx[..size],
+        &mut ky[..size],
         &mut chain,
         la,
         lb,

@@ -1,87 +1,101 @@
-// The row nearest to a row among the other master's rows, by one scan.
+// The row nearest to a row among the other master's listed rows, by one scan.
+use crate::sizes;
 ghost use mathlib.Core.Path.{_≡_};
-ghost use Prim.Native.Nat.{_<_};
+ghost use Prim.Native.Nat.{_<_, _/_};
 ghost use lib.ListN.{length};
-ghost use Rattle.join.specs.Rows.{Columns, Placed, gap};
-ghost use Rattle.join.specs.Nearest.{near, nearer, Listing, Seen, Partner};
+ghost use Rattle.join.specs.Sizes.{numberRange};
+ghost use Rattle.join.specs.Rows.{Placed};
+ghost use Rattle.join.specs.Nearest.{across, Packed, Keyed, nearer, Listing, Seen, Partner};
 
-// A row, its number and its squared distance.
+// A place, and distance and number of its row as one key: the lesser key comes first.
 pub struct Near {
-    pub d: u32,
-    pub n: u32,
+    pub key: u64,
     pub at: usize,
 }
 
-// The squared distance of rows t and j.
-fn apart(t: usize, j: usize, xs: &[i16], ys: &[i16]) -> u32
-    requires { ⌜ Placed (now xs) (now ys) t × Placed (now xs) (now ys) j ⌝ }
-    ensures { λ r. ⌜ r ≡ gap (now (xs .entry)) (now (ys .entry)) t j ⌝ }
+// The squared distance of row t and place k.
+fn apart(t: usize, k: usize, xs: &[i16], ys: &[i16], kx: &[i16], ky: &[i16]) -> u32
+    requires { ⌜ Placed (now xs) (now ys) t × Placed (now kx) (now ky) k ⌝ }
+    ensures { λ r. ⌜ r ≡ across (now (xs .entry)) (now (ys .entry)) (now (kx .entry)) (now (ky .entry)) t k ⌝ }
 {
-    matching::squared_distance(xs[t], ys[t], xs[j], ys[j])
+    matching::squared_distance(xs[t], ys[t], kx[k], ky[k])
 }
 
-// Row j as seen from row t.
-fn measure(t: usize, j: usize, ns: &[u32], xs: &[i16], ys: &[i16]) -> Near
-    requires { ⌜ Columns (now ns) (now xs) (now ys) × (t < length (now ns)) × (j < length (now ns)) ⌝ }
-    ensures { λ r. ⌜ r ≡ near (now (ns .entry)) (now (xs .entry)) (now (ys .entry)) t j ⌝ }
+// A distance above a number.
+fn pack(d: u32, n: u32) -> u64
+    ensures { λ r. ⌜ Packed d n r ⌝ }
 {
-    Near {
-        d: apart(t, j, xs, ys),
-        n: ns[j],
-        at: j,
-    }
+    (d as u64) * sizes::RANGE + (n as u64)
 }
 
-// The nearest so far, s, or row j where that comes before it: by distance, then by number.
-fn closer(s: Near, t: usize, j: usize, ns: &[u32], xs: &[i16], ys: &[i16]) -> Near
-    requires { ⌜ Columns (now ns) (now xs) (now ys) × (t < length (now ns)) × (j < length (now ns)) ⌝ }
-    ensures { λ r. ⌜ r ≡ nearer s (near (now (ns .entry)) (now (xs .entry)) (now (ys .entry)) t j) ⌝ }
+// The key of place k as seen from row t.
+fn measure(t: usize, k: usize, xs: &[i16], ys: &[i16], kn: &[u32], kx: &[i16], ky: &[i16]) -> u64
+    requires { ⌜ Placed (now xs) (now ys) t × Placed (now kx) (now ky) k × (k < length (now kn)) ⌝ }
+    ensures { λ r. ⌜ Keyed (now (xs .entry)) (now (ys .entry)) (now (kn .entry)) (now (kx .entry)) (now (ky .entry)) t k r ⌝ }
 {
-    let c = measure(t, j, ns, xs, ys);
-    if matching::is_earlier(c.d, c.n, 0, s.d, s.n, 0) {
-        return c;
+    pack(apart(t, k, xs, ys, kx, ky), kn[k])
+}
+
+// The nearest so far, s, or place k where its key c is less.
+fn closer(s: Near, c: u64, k: usize) -> Near
+    ensures { λ r. ⌜ r ≡ nearer s c k ⌝ }
+{
+    if c < s.key {
+        return Near { key: c, at: k };
     }
     s
 }
 
-// The nearest to row t of the rows that are listed from place first to place end.
+// The nearest to row t of the places from first to end.
 fn search(
     t: usize,
     first: usize,
     end: usize,
-    live: &[usize],
-    ns: &[u32],
     xs: &[i16],
     ys: &[i16],
+    kn: &[u32],
+    kx: &[i16],
+    ky: &[i16],
 ) -> Near
-    requires { ⌜ Columns (now ns) (now xs) (now ys) × (t < length (now ns)) × Listing (now ns) (now live) first end ⌝ }
-    ensures { λ r. ⌜ Seen (now (ns .entry)) (now (xs .entry)) (now (ys .entry)) (now (live .entry)) t first end r ⌝ }
+    requires { ⌜ Placed (now xs) (now ys) t × Listing (now kn) (now kx) (now ky) first end ⌝ }
+    ensures { λ r. ⌜ Seen (now (xs .entry)) (now (ys .entry)) (now (kn .entry)) (now (kx .entry)) (now (ky .entry)) t first end r ⌝ }
 {
-    let mut s = measure(t, live[first], ns, xs, ys);
+    let mut s = Near {
+        key: measure(t, first, xs, ys, kn, kx, ky),
+        at: first,
+    };
     let mut k = first + 1;
     while k < end {
-        s = closer(s, t, live[k], ns, xs, ys);
+        s = closer(s, measure(t, k, xs, ys, kn, kx, ky), k);
         k += 1;
     }
     s
 }
 
-// The nearest to row t of the other master's rows that are listed: A's from 0 to a, B's from split to b.
+// The nearest to row t of the other master's listed rows: A's at places 0 to a, B's at split to b.
 pub fn partner(
     t: usize,
     split: usize,
     a: usize,
     b: usize,
-    live: &[usize],
-    ns: &[u32],
     xs: &[i16],
     ys: &[i16],
+    kn: &[u32],
+    kx: &[i16],
+    ky: &[i16],
 ) -> Near
-    requires { ⌜ Columns (now ns) (now xs) (now ys) × (t < length (now ns)) × Listing (now ns) (now live) 0 a × Listing (now ns) (now live) split b ⌝ }
-    ensures { λ r. ⌜ Partner (now (ns .entry)) (now (xs .entry)) (now (ys .entry)) (now (live .entry)) split a b t r ⌝ }
+    requires { ⌜ Placed (now xs) (now ys) t × Listing (now kn) (now kx) (now ky) 0 a × Listing (now kn) (now kx) (now ky) split b ⌝ }
+    ensures { λ r. ⌜ Partner (now (xs .entry)) (now (ys .entry)) (now (kn .entry)) (now (kx .entry)) (now (ky .entry)) split a b t r ⌝ }
 {
     if t < split {
-        return search(t, split, b, live, ns, xs, ys);
+        return search(t, split, b, xs, ys, kn, kx, ky);
     }
-    search(t, 0, a, live, ns, xs, ys)
+    search(t, 0, a, xs, ys, kn, kx, ky)
+}
+
+// The distance in a key.
+pub fn distance(key: u64) -> u32
+    ensures { λ r. ⌜ r ≡ key / numberRange ⌝ }
+{
+    (key / sizes::RANGE) as u32
 }

@@ -1,12 +1,13 @@
-// The rows of both masters in one table, and the list of those that have something left.
+// The rows of both masters in one table, and the lists of those that have something left.
 ghost use mathlib.Core.Path.{_≡_};
-ghost use Prim.Native.Nat.{ℕ, _+_, _<_, _≤_};
+ghost use Prim.Native.Nat.{_+_, _-_, _<_, _≤_};
 ghost use lib.ListN.{length, getD};
-ghost use Rattle.join.specs.Rows.{Full, Loaded, Filled};
+ghost use Rattle.join.specs.Sizes.{tableRows};
+ghost use Rattle.join.specs.Rows.{Full, Loaded, Filled, Columns};
 ghost use Rattle.join.specs.Contract.{Fit};
-ghost use Rattle.join.specs.Live.{Span, Entered, Kept};
+ghost use Rattle.join.specs.Live.{lists, entered, Sized, Noted, Gathered, Refreshed};
 
-// Copies a master's columns into the rows from `at` on, and lists these rows.
+// Copies a master's columns into the rows from `at` on.
 fn load(
     an: &[u32],
     ax: &[i16],
@@ -17,11 +18,10 @@ fn load(
     xs: &mut [i16],
     ys: &mut [i16],
     left: &mut [u32],
-    live: &mut [usize],
 )
     requires { ⌜ (length (now ax) ≡ length (now an)) × (length (now ay) ≡ length (now an)) × (length (now ac) ≡ length (now an)) ⌝ }
-    requires { ⌜ Full (now ns) (now xs) (now ys) (now left) (now live) × (at + length (now an) ≤ 1024) ⌝ }
-    ensures { λ _. ⌜ Loaded (now (an .entry)) (now (ax .entry)) (now (ay .entry)) (now (ac .entry)) at (now (ns .entry)) (now (xs .entry)) (now (ys .entry)) (now (left .entry)) (now (live .entry)) (now (ns .exit)) (now (xs .exit)) (now (ys .exit)) (now (left .exit)) (now (live .exit)) ⌝ }
+    requires { ⌜ Full (now ns) (now xs) (now ys) (now left) × (at + length (now an) ≤ tableRows) ⌝ }
+    ensures { λ _. ⌜ Loaded (now (an .entry)) (now (ax .entry)) (now (ay .entry)) (now (ac .entry)) at (now (ns .entry)) (now (xs .entry)) (now (ys .entry)) (now (left .entry)) (now (ns .exit)) (now (xs .exit)) (now (ys .exit)) (now (left .exit)) ⌝ }
 {
     let mut k = 0;
     while k < an.len() {
@@ -29,12 +29,11 @@ fn load(
         xs[at + k] = ax[k];
         ys[at + k] = ay[k];
         left[at + k] = ac[k];
-        live[at + k] = at + k;
         k += 1;
     }
 }
 
-// Copies both masters' columns into the rows, A's first, and lists the rows.
+// Copies both masters' columns into the rows, A's first.
 pub fn fill(
     an: &[u32],
     ax: &[i16],
@@ -48,52 +47,112 @@ pub fn fill(
     xs: &mut [i16],
     ys: &mut [i16],
     left: &mut [u32],
-    live: &mut [usize],
 )
     requires { ⌜ Fit (now an) (now ax) (now ay) (now ac) × Fit (now bn) (now bx) (now by) (now bc) ⌝ }
-    requires { ⌜ Full (now ns) (now xs) (now ys) (now left) (now live) ⌝ }
-    ensures { λ _. ⌜ Filled (now (an .entry)) (now (ax .entry)) (now (ay .entry)) (now (ac .entry)) (now (bn .entry)) (now (bx .entry)) (now (by .entry)) (now (bc .entry)) (now (ns .exit)) (now (xs .exit)) (now (ys .exit)) (now (left .exit)) (now (live .exit)) ⌝ }
+    requires { ⌜ Full (now ns) (now xs) (now ys) (now left) ⌝ }
+    ensures { λ _. ⌜ Filled (now (an .entry)) (now (ax .entry)) (now (ay .entry)) (now (ac .entry)) (now (bn .entry)) (now (bx .entry)) (now (by .entry)) (now (bc .entry)) (now (ns .exit)) (now (xs .exit)) (now (ys .exit)) (now (left .exit)) ⌝ }
 {
-    load(an, ax, ay, ac, 0, ns, xs, ys, left, live);
+    load(an, ax, ay, ac, 0, ns, xs, ys, left);
     let at = an.len();
-    load(bn, bx, by, bc, at, ns, xs, ys, left, live);
+    load(bn, bx, by, bc, at, ns, xs, ys, left);
+}
+
+// Lists row r at place w.
+fn enter(
+    r: usize,
+    w: usize,
+    ns: &[u32],
+    xs: &[i16],
+    ys: &[i16],
+    live: &mut [usize],
+    spot: &mut [usize],
+    kn: &mut [u32],
+    kx: &mut [i16],
+    ky: &mut [i16],
+)
+    requires { ⌜ Columns (now ns) (now xs) (now ys) × Sized (lists (now live) (now spot) (now kn) (now kx) (now ky)) (length (now ns)) × (r < length (now ns)) × (w < length (now ns)) ⌝ }
+    ensures { λ _. ⌜ lists (now (live .exit)) (now (spot .exit)) (now (kn .exit)) (now (kx .exit)) (now (ky .exit)) ≡ entered (now (ns .entry)) (now (xs .entry)) (now (ys .entry)) (lists (now (live .entry)) (now (spot .entry)) (now (kn .entry)) (now (kx .entry)) (now (ky .entry))) w r ⌝ }
+{
+    live[w] = r;
+    spot[r] = w;
+    kn[w] = ns[r];
+    kx[w] = xs[r];
+    ky[w] = ys[r];
 }
 
 // Lists row r at place w where it has something left; gives the next place.
-fn list(r: usize, w: usize, left: &[u32], live: &mut [usize]) -> usize
-    requires { ⌜ (r < length (now left)) × (w < length (now live)) ⌝ }
-    ensures { λ e. ⌜ Entered r w (now (left .entry)) (now (live .entry)) (now (live .exit)) e ⌝ }
+fn list(
+    r: usize,
+    w: usize,
+    ns: &[u32],
+    xs: &[i16],
+    ys: &[i16],
+    left: &[u32],
+    live: &mut [usize],
+    spot: &mut [usize],
+    kn: &mut [u32],
+    kx: &mut [i16],
+    ky: &mut [i16],
+) -> usize
+    requires { ⌜ Columns (now ns) (now xs) (now ys) × Sized (lists (now live) (now spot) (now kn) (now kx) (now ky)) (length (now ns)) × (length (now left) ≡ length (now ns)) × (r < length (now ns)) × (w < length (now ns)) ⌝ }
+    ensures { λ e. ⌜ Noted (now (ns .entry)) (now (xs .entry)) (now (ys .entry)) (now (left .entry)) r w (lists (now (live .entry)) (now (spot .entry)) (now (kn .entry)) (now (kx .entry)) (now (ky .entry))) (lists (now (live .exit)) (now (spot .exit)) (now (kn .exit)) (now (kx .exit)) (now (ky .exit))) e ⌝ }
 {
     if left[r] == 0 {
         return w;
     }
-    live[w] = r;
+    enter(r, w, ns, xs, ys, live, spot, kn, kx, ky);
     w + 1
 }
 
-// Takes the rows that have nothing left off the list from place first to place end; gives its new end.
-pub fn keep(first: usize, end: usize, left: &[u32], live: &mut [usize]) -> usize
-    requires { ⌜ Span first end (now left) (now live) ⌝ }
-    ensures { λ r. ⌜ Kept first end (now (left .entry)) (now (live .entry)) (now (live .exit)) r ⌝ }
+// Lists those of the rows from first to end that have something left, from place first on; gives the list's end.
+pub fn gather(
+    first: usize,
+    end: usize,
+    ns: &[u32],
+    xs: &[i16],
+    ys: &[i16],
+    left: &[u32],
+    live: &mut [usize],
+    spot: &mut [usize],
+    kn: &mut [u32],
+    kx: &mut [i16],
+    ky: &mut [i16],
+) -> usize
+    requires { ⌜ Columns (now ns) (now xs) (now ys) × Sized (lists (now live) (now spot) (now kn) (now kx) (now ky)) (length (now ns)) × (length (now left) ≡ length (now ns)) × (first ≤ end) × (end ≤ length (now ns)) ⌝ }
+    ensures { λ e. ⌜ Gathered (now (ns .entry)) (now (xs .entry)) (now (ys .entry)) (now (left .entry)) first end (lists (now (live .entry)) (now (spot .entry)) (now (kn .entry)) (now (kx .entry)) (now (ky .entry))) (lists (now (live .exit)) (now (spot .exit)) (now (kn .exit)) (now (kx .exit)) (now (ky .exit))) e ⌝ }
 {
     let mut w = first;
     let mut k = first;
     while k < end {
-        let r = live[k];
-        w = list(r, w, left, live);
+        w = list(k, w, ns, xs, ys, left, live, spot, kn, kx, ky);
         k += 1;
     }
     w
 }
 
-// The same where row alone may have become used up.
-pub fn refresh(row: usize, first: usize, end: usize, left: &[u32], live: &mut [usize]) -> usize
-    requires { ⌜ Span first end (now left) (now live) × (row < length (now left)) ⌝ }
-    requires { ⌜ ((k : ℕ) → first ≤ k → k < end → (getD (now live) k 0 ≡ row → ⊥) → 1 ≤ getD (now left) (getD (now live) k 0) 0) ⌝ }
-    ensures { λ r. ⌜ Kept first end (now (left .entry)) (now (live .entry)) (now (live .exit)) r ⌝ }
+// Takes a row that is used up off the list that ends at place e: the last row listed fills its place. Gives the new end.
+pub fn refresh(
+    row: usize,
+    e: usize,
+    ns: &[u32],
+    xs: &[i16],
+    ys: &[i16],
+    left: &[u32],
+    live: &mut [usize],
+    spot: &mut [usize],
+    kn: &mut [u32],
+    kx: &mut [i16],
+    ky: &mut [i16],
+) -> usize
+    requires { ⌜ Columns (now ns) (now xs) (now ys) × Sized (lists (now live) (now spot) (now kn) (now kx) (now ky)) (length (now ns)) × (length (now left) ≡ length (now ns)) ⌝ }
+    requires { ⌜ (row < length (now ns)) × (getD (now spot) row 0 < length (now ns)) × (1 ≤ e) × (e ≤ length (now ns)) × (getD (now live) (e - 1) 0 < length (now ns)) ⌝ }
+    ensures { λ r. ⌜ Refreshed (now (ns .entry)) (now (xs .entry)) (now (ys .entry)) (now (left .entry)) row e (lists (now (live .entry)) (now (spot .entry)) (now (kn .entry)) (now (kx .entry)) (now (ky .entry))) (lists (now (live .exit)) (now (spot .exit)) (now (kn .exit)) (now (kx .exit)) (now (ky .exit))) r ⌝ }
 {
     if left[row] != 0 {
-        return end;
+        return e;
     }
-    keep(first, end, left, live)
+    let r = live[e - 1];
+    let w = spot[row];
+    enter(r, w, ns, xs, ys, live, spot, kn, kx, ky);
+    e - 1
 }

@@ -1,197 +1,198 @@
 -- The lists of rows that have something left. Assumes nothing.
-use Prim.Native.Nat.{ℕ, _+_, _<_, _≤_}
-use mathlib.Core.Path.{_≡_, refl, sym, _∙_, ap, subst}
-use mathlib.Core.List.{List, []}
-use native.Mathlib.Decide.{ℕ-discrete, decLe}
+use Prim.Native.Nat.{ℕ, _+_, _-_, _<_, _≤_}
+use mathlib.Core.Path.{_≡_, refl, sym, _∙_, ap}
+use mathlib.Core.List.{List}
+use native.Mathlib.Decide.{ℕ-discrete}
 use native.Mathlib.Omega.{arith}
+use lib.IntN.{ℤ, pos}
 use lib.ListN.{length, getD, set, length-set}
 use lib.Seq.{getD-set-same, getD-set-other}
-use Rattle.matching.specs.Definitions.Nodes.{Master, masterA, masterB}
-use Rattle.join.specs.Rows.{Rows, size, from, to, On, rest, Sound}
-use Rattle.join.specs.Live.{Listed, Entered, passed, entered, Kept, Covers, Live}
-use Rattle.join.proofs.Laws.Rest.{rest-none}
+use Rattle.join.specs.Live.{Lists, Sized, rowAt, spotOf, Same, Elsewhere, entered, Holds, Live, Noted, passes, enters, Gathered}
 
-listed-same : (live live' : List ℕ) (first end r : ℕ) → ((k : ℕ) → first ≤ k → k < end → getD live' k 0 ≡ getD live k 0) → Listed live first end r → Listed live' first end r
-listed-same live live' first end r h p = record { place = p .place; low = p .low; high = p .high; is = h (p .place) (p .low) (p .high) ∙ p .is }
+pub same-refl : (Q : Lists) (k : ℕ) → Same Q Q k
+same-refl Q k = record { live = refl; spot = refl; n = refl; x = refl; y = refl }
 
--- Rows are kept one by one: those before place k are done, and w is the next free place.
-module _ (first end : ℕ) (left live₀ : List ℕ) where
-  pub record Keeping (live : List ℕ) (w k : ℕ) : Type 0 where
-    pub low : first ≤ w
-    pub mid : w ≤ k
-    pub high : k ≤ end
-    pub len : length live ≡ length live₀
-    pub among : (q : ℕ) → first ≤ q → q < w → Listed live₀ first end (getD live q 0)
-    pub alive : (q : ℕ) → first ≤ q → q < w → 1 ≤ getD left (getD live q 0) 0
-    pub all : (q : ℕ) → first ≤ q → q < k → 1 ≤ getD left (getD live₀ q 0) 0 → Listed live first w (getD live₀ q 0)
-    pub ahead : (q : ℕ) → q < first → getD live q 0 ≡ getD live₀ q 0
-    pub behind : (q : ℕ) → k ≤ q → getD live q 0 ≡ getD live₀ q 0
+same-trans : (Q P O : Lists) (k : ℕ) → Same Q P k → Same P O k → Same Q O k
+same-trans Q P O k a b = record { live = b .live ∙ a .live; spot = b .spot ∙ a .spot; n = b .n ∙ a .n; x = b .x ∙ a .x; y = b .y ∙ a .y }
 
-  pub keeping-start : first ≤ end → Keeping live₀ first first
-  keeping-start h = record {
-    low = omega arith;
-    mid = omega arith;
-    high = h;
-    len = refl;
-    among = λ q a b. absurd (omega arith);
-    alive = λ q a b. absurd (omega arith);
-    all = λ q a b. absurd (omega arith);
-    ahead = λ q a. refl;
-    behind = λ q a. refl;
-  }
+module _ (ns : List ℕ) (xs ys : List ℤ) where
+  -- Row r is put on the list at place w.
+  module _ (Q : Lists) (n w r : ℕ) (z : Sized Q n) (in-w : w < n) (in-r : r < n) where
+    abbrev new : Lists
+    new = entered ns xs ys Q w r
 
-  module _ (live : List ℕ) (w k : ℕ) (v : Keeping live w k) (less : k < end) (room : end ≤ length live₀) where
-    here : getD live k 0 ≡ getD live₀ k 0
-    here = v .behind k (omega arith)
+    pub entered-size : Sized new n
+    entered-size = record { in-live = simp length-set (z .in-live); in-spot = simp length-set (z .in-spot); in-n = simp length-set (z .in-n); in-x = simp length-set (z .in-x); in-y = simp length-set (z .in-y) }
 
-    pub keeping-row : ((q : ℕ) → first ≤ q → q < end → getD live₀ q 0 < length left) → getD live k 0 < length left
-    keeping-row h = rw here (h k (omega (arith, v .low, v .mid)) less)
+    pub row-here : rowAt new w ≡ r
+    row-here = getD-set-same (Q .live) w r 0 (omega (arith, z .in-live))
 
-    -- Row k has nothing left,
-    pass : getD left (getD live k 0) 0 ≡ 0 → Keeping live w (k + 1)
-    pass e = record {
-      low = v .low;
-      mid = omega (arith, v .mid);
-      high = omega arith;
-      len = v .len;
-      among = v .among;
-      alive = v .alive;
-      all = λ q a b l. go q a b l (ℕ-discrete q k);
-      ahead = v .ahead;
-      behind = λ q a. v .behind q (omega arith);
+    pub spot-here : spotOf new r ≡ w
+    spot-here = getD-set-same (Q .spot) r w 0 (omega (arith, z .in-spot))
+
+    pub row-other : (k : ℕ) → (k ≡ w → ⊥) → rowAt new k ≡ rowAt Q k
+    row-other k d = getD-set-other (Q .live) w k r 0 d
+
+    pub spot-other : (q : ℕ) → (q ≡ r → ⊥) → spotOf new q ≡ spotOf Q q
+    spot-other q d = getD-set-other (Q .spot) r q w 0 d
+
+    pub holds-here : Holds ns xs ys new w
+    holds-here = record {
+      n = getD-set-same (Q .kn) w (getD ns r 0) 0 (omega (arith, z .in-n)) ∙ ap (λ (i : ℕ). getD ns i 0) (sym row-here);
+      x = getD-set-same (Q .kx) w (getD xs r (pos 0)) (pos 0) (omega (arith, z .in-x)) ∙ ap (λ (i : ℕ). getD xs i (pos 0)) (sym row-here);
+      y = getD-set-same (Q .ky) w (getD ys r (pos 0)) (pos 0) (omega (arith, z .in-y)) ∙ ap (λ (i : ℕ). getD ys i (pos 0)) (sym row-here);
+      spot = ap (spotOf new) row-here ∙ spot-here;
     }
-      where
-        go : (q : ℕ) → first ≤ q → q < k + 1 → 1 ≤ getD left (getD live₀ q 0) 0 → Dec (q ≡ k) → Listed live first w (getD live₀ q 0)
-        go q a b l (yes d) = absurd (omega (arith, e, ap (λ (i : ℕ). getD left i 0) here, ap (λ (i : ℕ). getD left (getD live₀ i 0) 0) d))
-        go q a b l (no d) = v .all q a (omega arith) l
 
-    -- or is kept.
-    enter : (getD left (getD live k 0) 0 ≡ 0 → ⊥) → Keeping (set live w (getD live k 0)) (w + 1) (k + 1)
-    enter e = record {
-      low = omega (arith, v .low);
-      mid = omega (arith, v .mid);
-      high = omega arith;
-      len = simp length-set (v .len);
-      among = λ q a b. among q a b (ℕ-discrete q w);
-      alive = λ q a b. alive q a b (ℕ-discrete q w);
-      all = λ q a b l. all q a b l (ℕ-discrete q k);
-      ahead = λ q a. old q (λ d. omega (arith, v .low)) ∙ v .ahead q a;
-      behind = λ q a. old q (λ d. omega (arith, v .mid)) ∙ v .behind q (omega arith);
+    pub holds-other : (k : ℕ) → (k ≡ w → ⊥) → (rowAt Q k ≡ r → ⊥) → Holds ns xs ys Q k → Holds ns xs ys new k
+    holds-other k d e h = record {
+      n = getD-set-other (Q .kn) w k (getD ns r 0) 0 d ∙ h .n ∙ ap (λ (i : ℕ). getD ns i 0) (sym (row-other k d));
+      x = getD-set-other (Q .kx) w k (getD xs r (pos 0)) (pos 0) d ∙ h .x ∙ ap (λ (i : ℕ). getD xs i (pos 0)) (sym (row-other k d));
+      y = getD-set-other (Q .ky) w k (getD ys r (pos 0)) (pos 0) d ∙ h .y ∙ ap (λ (i : ℕ). getD ys i (pos 0)) (sym (row-other k d));
+      spot = ap (spotOf new) (row-other k d) ∙ spot-other (rowAt Q k) e ∙ h .spot;
     }
-      where
-        new : ℕ → ℕ
-        new q = getD (set live w (getD live k 0)) q 0
 
-        old : (q : ℕ) → (q ≡ w → ⊥) → new q ≡ getD live q 0
-        old q d = getD-set-other live w q (getD live k 0) 0 d
+    pub apart : (k : ℕ) → (k ≡ w → ⊥) → (k ≡ r → ⊥) → Same Q new k
+    apart k d e = record {
+      live = row-other k d;
+      spot = spot-other k e;
+      n = getD-set-other (Q .kn) w k (getD ns r 0) 0 d;
+      x = getD-set-other (Q .kx) w k (getD xs r (pos 0)) (pos 0) d;
+      y = getD-set-other (Q .ky) w k (getD ys r (pos 0)) (pos 0) d;
+    }
 
-        put : (q : ℕ) → q ≡ w → new q ≡ getD live k 0
-        put q d = rw d (getD-set-same live w (getD live k 0) 0 (omega (arith, v .len, v .mid)))
-
-        among : (q : ℕ) → first ≤ q → q < w + 1 → Dec (q ≡ w) → Listed live₀ first end (new q)
-        among q a b (yes d) = record { place = k; low = omega (arith, v .low, v .mid); high = less; is = sym here ∙ sym (put q d) }
-        among q a b (no d) = subst (Listed live₀ first end) (sym (old q d)) (v .among q a (omega arith))
-
-        alive : (q : ℕ) → first ≤ q → q < w + 1 → Dec (q ≡ w) → 1 ≤ getD left (new q) 0
-        alive q a b (yes d) = rw (put q d) (omega arith)
-        alive q a b (no d) = rw (old q d) (v .alive q a (omega arith))
-
-        all : (q : ℕ) → first ≤ q → q < k + 1 → 1 ≤ getD left (getD live₀ q 0) 0 → Dec (q ≡ k) → Listed (set live w (getD live k 0)) first (w + 1) (getD live₀ q 0)
-        all q a b l (yes d) = record { place = w; low = v .low; high = omega arith; is = put w refl ∙ here ∙ ap (λ (i : ℕ). getD live₀ i 0) (sym d) }
-        all q a b l (no d) =
-            let p = v .all q a (omega arith) l in
-            record { place = p .place; low = p .low; high = omega (arith, p .high); is = old (p .place) (λ f. omega (arith, p .high)) ∙ p .is }
-
-    pub keeping-on : (live' : List ℕ) (e : ℕ) → Entered (getD live k 0) w left live live' e → Keeping live' e (k + 1)
-    keeping-on live' e (passed z f g) = rw (f, g) (pass z)
-    keeping-on live' e (entered z f g) = rw (f, g) (enter z)
-
-  pub keeping-end : (live : List ℕ) (w k : ℕ) → Keeping live w k → end ≤ k → Kept first end left live₀ live w
-  keeping-end live w k v h = record {
-    low = v .low;
-    high = omega (arith, v .mid, v .high);
-    among = v .among;
-    alive = v .alive;
-    all = λ q a b l. v .all q a (omega arith) l;
-    ahead = v .ahead;
-    behind = λ q a. v .behind q (omega (arith, v .high));
-  }
-
-  -- Where row alone may be used up, and is not, all are kept.
-  pub kept-all : (row : ℕ) → first ≤ end → ((k : ℕ) → first ≤ k → k < end → (getD live₀ k 0 ≡ row → ⊥) → 1 ≤ getD left (getD live₀ k 0) 0) → (getD left row 0 ≡ 0 → ⊥)
-      → Kept first end left live₀ live₀ end
-  kept-all row h f n = record {
-    low = h;
-    high = omega arith;
-    among = λ k a b. record { place = k; low = a; high = b; is = refl };
-    alive = λ k a b. go k a b (ℕ-discrete (getD live₀ k 0) row);
-    all = λ k a b l. record { place = k; low = a; high = b; is = refl };
-    ahead = λ k a. refl;
-    behind = λ k a. refl;
+  -- A list whose places and rows are as they were.
+  pub live-same : (left : List ℕ) (Q P : Lists) (first end e : ℕ) → ((k : ℕ) → first ≤ k → k < end → Same Q P k) → Live ns xs ys left Q first end e → Live ns xs ys left P first end e
+  live-same left Q P first end e h l = record {
+    low = l .low;
+    high = l .high;
+    holds = λ k a b. holds k a b;
+    on = λ k a b. rw (row k a b) (l .on k a b);
+    alive = λ k a b. rw (row k a b) (l .alive k a b);
+    all = λ r a b v. all r a b (l .all r a b v);
   }
     where
-      go : (k : ℕ) → first ≤ k → k < end → Dec (getD live₀ k 0 ≡ row) → 1 ≤ getD left (getD live₀ k 0) 0
-      go k a b (yes e) = rw e (omega arith)
-      go k a b (no e) = f k a b e
+      row : (k : ℕ) → first ≤ k → k < e → rowAt P k ≡ rowAt Q k
+      row k a b = h k a (omega (arith, l .high)) .live
 
-module _ (R : Rows) (s : Master) where
-  -- A list that has all rows that have something left still has them when rows have less,
-  pub covers-less : (left left' live : List ℕ) (e : ℕ) → ((q : ℕ) → getD left' q 0 ≤ getD left q 0) → Covers R left live s e → Covers R left' live s e
-  covers-less left left' live e h c = record { low = c .low; high = c .high; on = c .on; all = λ r a l. c .all r a (omega (arith, h r)) }
+      holds : (k : ℕ) → first ≤ k → k < e → Holds ns xs ys P k
+      holds k a b =
+          let s = h k a (omega (arith, l .high)) in
+          let o = l .holds k a b in
+          let q = l .on k a b in
+          record {
+            n = s .n ∙ o .n ∙ ap (λ (i : ℕ). getD ns i 0) (sym (s .live));
+            x = s .x ∙ o .x ∙ ap (λ (i : ℕ). getD xs i (pos 0)) (sym (s .live));
+            y = s .y ∙ o .y ∙ ap (λ (i : ℕ). getD ys i (pos 0)) (sym (s .live));
+            spot = ap (spotOf P) (s .live) ∙ h (rowAt Q k) (q .0) (q .1) .spot ∙ o .spot;
+          }
 
-  -- and so has one with the same rows in its places.
-  pub covers-same : (left live live' : List ℕ) (e : ℕ) → ((k : ℕ) → from R s ≤ k → k < e → getD live' k 0 ≡ getD live k 0) → Covers R left live s e → Covers R left live' s e
-  covers-same left live live' e h c = record {
-    low = c .low;
-    high = c .high;
-    on = λ k a b. subst (On R s) (sym (h k a b)) (c .on k a b);
-    all = λ r a l. listed-same live live' (from R s) e r h (c .all r a l);
-  }
+      all : (r : ℕ) → first ≤ r → r < end → (first ≤ spotOf Q r) × (spotOf Q r < e) × (rowAt Q (spotOf Q r) ≡ r) → (first ≤ spotOf P r) × (spotOf P r < e) × (rowAt P (spotOf P r) ≡ r)
+      all r a b v = rw (h r a b .spot) (v .0, v .1, row (spotOf Q r) (v .0) (v .1) ∙ v .2)
 
-  pub live-same : (left live live' : List ℕ) (e : ℕ) → ((k : ℕ) → from R s ≤ k → k < e → getD live' k 0 ≡ getD live k 0) → Live R left live s e → Live R left live' s e
-  live-same left live live' e h l = record { covers = covers-same left live live' e h (l .covers); alive = λ k a b. rw (h k a b) (l .alive k a b) }
+  -- Rows are listed one by one: those before row k are done, and w is the next free place.
+  module _ (left : List ℕ) (first end : ℕ) (Q₀ : Lists) where
+    pub record Gathering (Q : Lists) (k w : ℕ) : Type 0 where
+      pub low : first ≤ k
+      pub high : k ≤ end
+      pub sized : Sized Q (length ns)
+      pub live : Live ns xs ys left Q first k w
+      pub apart : Elsewhere first end Q₀ Q
 
-  -- What is kept of it is the list.
-  pub live-kept : (left live live' : List ℕ) (e r : ℕ) → Covers R left live s e → Kept (from R s) e left live live' r → Live R left live' s r
-  live-kept left live live' e r c k = record {
-    covers = record {
-      low = k .low;
-      high = omega (arith, k .high, c .high);
-      on = λ q a b. let p = k .among q a b in subst (On R s) (p .is) (c .on (p .place) (p .low) (p .high));
-      all = λ q a l. all q (c .all q a l) l;
-    };
-    alive = k .alive;
-  }
-    where
-      all : (q : ℕ) → Listed live (from R s) e q → 1 ≤ getD left q 0 → Listed live' (from R s) r q
-      all q p l = subst (Listed live' (from R s) r) (p .is) (k .all (p .place) (p .low) (p .high) (subst (λ (i : ℕ). 1 ≤ getD left i 0) (sym (p .is)) l))
+    pub gathering-start : first ≤ end → Sized Q₀ (length ns) → Gathering Q₀ first first
+    gathering-start h z = record {
+      low = omega arith;
+      high = h;
+      sized = z;
+      live = record {
+        low = omega arith;
+        high = omega arith;
+        holds = λ k a b. absurd (omega arith);
+        on = λ k a b. absurd (omega arith);
+        alive = λ k a b. absurd (omega arith);
+        all = λ r a b v. absurd (omega arith);
+      };
+      apart = λ k d. same-refl Q₀ k;
+    }
 
-  -- Where it is empty, the master has nothing left.
-  spent : (left live : List ℕ) (e : ℕ) → Live R left live s e → e ≡ from R s → (q : ℕ) → On R s q → getD left q 0 ≡ 0
-  spent left live e l z q h = go (decLe 1 (getD left q 0))
-    where
-      go : Dec (1 ≤ getD left q 0) → getD left q 0 ≡ 0
-      go (yes a) = let p = l .covers .all q h a in absurd (omega (arith, p .low, p .high))
-      go (no a) = omega arith
+    module _ (Q : Lists) (k w : ℕ) (g : Gathering Q k w) (less : k < end) where
+      abbrev l : Live ns xs ys left Q first k w
+      l = g .live
 
--- At first each row is listed in its own place.
-pub covers-start : (R : Rows) (left live : List ℕ) → Sound R left → ((k : ℕ) → k < size R → getD live k 0 ≡ k) → (s : Master) → Covers R left live s (to R s)
-covers-start R left live v h s = record {
-  low = parts s;
-  high = omega arith;
-  on = λ k a b. subst (On R s) (sym (h k (inside s k b))) (a, b);
-  all = λ r a l. record { place = r; low = a .0; high = a .1; is = h r (inside s r (a .1)) };
-}
-  where
-    parts : (s : Master) → from R s ≤ to R s
-    parts masterA = omega arith
-    parts masterB = v .parts
+      gathering-pass : getD left k 0 ≡ 0 → Gathering Q (k + 1) w
+      gathering-pass e = record {
+        low = omega (arith, g .low);
+        high = omega arith;
+        sized = g .sized;
+        live = record {
+          low = l .low;
+          high = omega (arith, l .high);
+          holds = l .holds;
+          on = λ q a b. (l .on q a b .0, omega (arith, l .on q a b .1));
+          alive = l .alive;
+          all = λ r a b v. all r a b v (ℕ-discrete r k);
+        };
+        apart = g .apart;
+      }
+        where
+          all : (r : ℕ) → first ≤ r → r < k + 1 → 1 ≤ getD left r 0 → Dec (r ≡ k) → (first ≤ spotOf Q r) × (spotOf Q r < w) × (rowAt Q (spotOf Q r) ≡ r)
+          all r a b v (yes d) = absurd (omega (arith, e, ap (λ (i : ℕ). getD left i 0) d))
+          all r a b v (no d) = l .all r a (omega arith) v
 
-    inside : (s : Master) (k : ℕ) → k < to R s → k < size R
-    inside masterA k b = omega (arith, v .parts)
-    inside masterB k b = b
+      gathering-enter : end ≤ length ns → (getD left k 0 ≡ 0 → ⊥) → Gathering (entered ns xs ys Q w k) (k + 1) (w + 1)
+      gathering-enter room e = record {
+        low = omega (arith, g .low);
+        high = omega arith;
+        sized = entered-size Q n w k z in-w in-k;
+        live = record {
+          low = omega (arith, l .low);
+          high = omega (arith, l .high);
+          holds = λ q a b. holds q a b (ℕ-discrete q w);
+          on = λ q a b. on q a b (ℕ-discrete q w);
+          alive = λ q a b. alive q a b (ℕ-discrete q w);
+          all = λ r a b v. all r a b v (ℕ-discrete r k);
+        };
+        apart = λ q d. same-trans Q₀ Q P q (g .apart q d) (apart Q n w k z in-w in-k q (λ f. d (omega (arith, l .low)) (omega (arith, l .high))) (λ f. d (omega (arith, g .low)) (omega arith)));
+      }
+        where
+          n : ℕ
+          n = length ns
 
--- Where a list is empty, no pair can be taken.
-pub none-left : (R : Rows) (left live : List ℕ) (v : Sound R left) (s : Master) (e : ℕ) → Live R left live s e → e ≡ from R s → rest R left ≡ []
-none-left R left live v masterA e l z = rest-none R left v (λ i j hi hj. omega (arith, spent R masterA left live e l z i hi))
-none-left R left live v masterB e l z = rest-none R left v (λ i j hi hj. omega (arith, spent R masterB left live e l z j hj))
+          z : Sized Q n
+          z = g .sized
+
+          P : Lists
+          P = entered ns xs ys Q w k
+
+          in-w : w < n
+          in-w = omega (arith, l .high)
+
+          in-k : k < n
+          in-k = omega arith
+
+          holds : (q : ℕ) → first ≤ q → q < w + 1 → Dec (q ≡ w) → Holds ns xs ys P q
+          holds q a b (yes d) = rw d (holds-here Q n w k z in-w in-k)
+          holds q a b (no d) = holds-other Q n w k z in-w in-k q d (λ f. omega (arith, l .on q a (omega arith) .1)) (l .holds q a (omega arith))
+
+          on : (q : ℕ) → first ≤ q → q < w + 1 → Dec (q ≡ w) → (first ≤ rowAt P q) × (rowAt P q < k + 1)
+          on q a b (yes d) = rw (d, row-here Q n w k z in-w in-k) (g .low, omega arith)
+          on q a b (no d) = rw (row-other Q n w k z in-w in-k q d) (l .on q a (omega arith) .0, omega (arith, l .on q a (omega arith) .1))
+
+          alive : (q : ℕ) → first ≤ q → q < w + 1 → Dec (q ≡ w) → 1 ≤ getD left (rowAt P q) 0
+          alive q a b (yes d) = rw (d, row-here Q n w k z in-w in-k) (omega arith)
+          alive q a b (no d) = rw (row-other Q n w k z in-w in-k q d) (l .alive q a (omega arith))
+
+          all : (r : ℕ) → first ≤ r → r < k + 1 → 1 ≤ getD left r 0 → Dec (r ≡ k) → (first ≤ spotOf P r) × (spotOf P r < w + 1) × (rowAt P (spotOf P r) ≡ r)
+          all r a b v (yes d) = rw (d, spot-here Q n w k z in-w in-k) (l .low, omega arith, row-here Q n w k z in-w in-k)
+          all r a b v (no d) =
+              let o = l .all r a (omega arith) v in
+              rw (spot-other Q n w k z in-w in-k r d) (o .0, omega (arith, o .1), row-other Q n w k z in-w in-k (spotOf Q r) (λ f. omega (arith, o .1)) ∙ o .2)
+
+      pub gathering-on : end ≤ length ns → (O : Lists) (e : ℕ) → Noted ns xs ys left k w Q O e → Gathering O (k + 1) e
+      gathering-on room O e (passes d f h) = rw (f, h) (gathering-pass d)
+      gathering-on room O e (enters d f h) = rw (f, h) (gathering-enter room d)
+
+    pub gathering-end : (Q : Lists) (k w : ℕ) → Gathering Q k w → end ≤ k → Gathered ns xs ys left first end Q₀ Q w
+    gathering-end Q k w g h =
+        let e : k ≡ end = omega (arith, g .high) in
+        record { live = rw e at (g .live); apart = g .apart }

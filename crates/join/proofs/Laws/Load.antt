@@ -12,57 +12,50 @@ use Rattle.matching.specs.Definitions.Nodes.{Master, masterA, masterB, Node, Un
 use Rattle.matching.specs.Definitions.Join.{join}
 use Rattle.matching.specs.Definitions.Columns.{tabulate, nodeAt, nodesOf, Inside}
 use Rattle.matching.specs.Laws.Columns.{nodes-length, nodes-get, same-place}
+use Rattle.join.specs.Sizes.{tableRows}
 use Rattle.join.specs.Rows.{Columns, Rows, rows, size, On, rest, Sound, Full, Loaded, Filled}
+use Rattle.join.specs.Live.{lists, Sized}
 use Rattle.join.specs.Contract.{Fit}
 
-module _ (an : List ℕ) (ax ay : List ℤ) (ac : List ℕ) (at : ℕ) (ns₀ : List ℕ) (xs₀ ys₀ : List ℤ) (left₀ live₀ : List ℕ) where
+module _ (an : List ℕ) (ax ay : List ℤ) (ac : List ℕ) (at : ℕ) (ns₀ : List ℕ) (xs₀ ys₀ : List ℤ) (left₀ : List ℕ) where
   -- The first k rows are copied.
-  pub record Loading (ns : List ℕ) (xs ys : List ℤ) (left live : List ℕ) (k : ℕ) : Type 0 where
+  pub record Loading (ns : List ℕ) (xs ys : List ℤ) (left : List ℕ) (k : ℕ) : Type 0 where
     pub count : k ≤ length an
     pub in-n : length ns ≡ length ns₀
     pub in-x : length xs ≡ length xs₀
     pub in-y : length ys ≡ length ys₀
     pub in-left : length left ≡ length left₀
-    pub in-live : length live ≡ length live₀
     pub here : (q : ℕ) → q < k → nodeAt ns xs ys left (at + q) ≡ nodeAt an ax ay ac q
     pub ahead : (q : ℕ) → q < at → nodeAt ns xs ys left q ≡ nodeAt ns₀ xs₀ ys₀ left₀ q
-    pub lists : (q : ℕ) → q < k → getD live (at + q) 0 ≡ at + q
-    pub before : (q : ℕ) → q < at → getD live q 0 ≡ getD live₀ q 0
 
-  pub loading-start : Loading ns₀ xs₀ ys₀ left₀ live₀ 0
+  pub loading-start : Loading ns₀ xs₀ ys₀ left₀ 0
   loading-start = record {
     count = omega arith;
     in-n = refl;
     in-x = refl;
     in-y = refl;
     in-left = refl;
-    in-live = refl;
     here = λ q h. absurd (omega arith);
     ahead = λ q h. refl;
-    lists = λ q h. absurd (omega arith);
-    before = λ q h. refl;
   }
 
-  module _ (ns : List ℕ) (xs ys : List ℤ) (left live : List ℕ) (k : ℕ) (l : Loading ns xs ys left live k) where
-    pub full-now : Full ns₀ xs₀ ys₀ left₀ live₀ → Full ns xs ys left live
-    full-now f = record { in-n = l .in-n ∙ f .in-n; in-x = l .in-x ∙ f .in-x; in-y = l .in-y ∙ f .in-y; in-left = l .in-left ∙ f .in-left; in-live = l .in-live ∙ f .in-live }
+  module _ (ns : List ℕ) (xs ys : List ℤ) (left : List ℕ) (k : ℕ) (l : Loading ns xs ys left k) where
+    pub full-now : Full ns₀ xs₀ ys₀ left₀ → Full ns xs ys left
+    full-now f = record { in-n = l .in-n ∙ f .in-n; in-x = l .in-x ∙ f .in-x; in-y = l .in-y ∙ f .in-y; in-left = l .in-left ∙ f .in-left }
 
-    pub loading-on : Full ns₀ xs₀ ys₀ left₀ live₀ → at + length an ≤ 1024 → k < length an
-        → Loading (set ns (at + k) (getD an k 0)) (set xs (at + k) (getD ax k (pos 0))) (set ys (at + k) (getD ay k (pos 0))) (set left (at + k) (getD ac k 0)) (set live (at + k) (at + k)) (k + 1)
+    pub loading-on : Full ns₀ xs₀ ys₀ left₀ → at + length an ≤ tableRows → k < length an
+        → Loading (set ns (at + k) (getD an k 0)) (set xs (at + k) (getD ax k (pos 0))) (set ys (at + k) (getD ay k (pos 0))) (set left (at + k) (getD ac k 0)) (k + 1)
     loading-on full0 fits h = record {
       count = omega arith;
       in-n = simp length-set (l .in-n);
       in-x = simp length-set (l .in-x);
       in-y = simp length-set (l .in-y);
       in-left = simp length-set (l .in-left);
-      in-live = simp length-set (l .in-live);
       here = λ q g. go q g (ℕ-discrete q k);
       ahead = λ q g. other q (λ e. omega arith) ∙ l .ahead q g;
-      lists = λ q g. lists q g (ℕ-discrete q k);
-      before = λ q g. getD-set-other live (at + k) q (at + k) 0 (λ e. omega arith) ∙ l .before q g;
     }
       where
-        full : Full ns xs ys left live
+        full : Full ns xs ys left
         full = full-now full0
 
         new : ℕ → Node
@@ -88,28 +81,15 @@ module _ (an : List ℕ) (ax ay : List ℤ) (ac : List ℕ) (at : ℕ) (ns₀ : 
         go q g (yes e) = rw e same
         go q g (no e) = other (at + q) (λ d. e (omega arith)) ∙ l .here q (omega arith)
 
-        lists : (q : ℕ) → q < k + 1 → Dec (q ≡ k) → getD (set live (at + k) (at + k)) (at + q) 0 ≡ at + q
-        lists q g (yes e) = rw e (getD-set-same live (at + k) (at + k) 0 (omega (arith, full .in-live)))
-        lists q g (no e) = getD-set-other live (at + k) (at + q) (at + k) 0 (λ d. e (omega arith)) ∙ l .lists q (omega arith)
-
-    pub loaded : length an ≤ k → Loaded an ax ay ac at ns₀ xs₀ ys₀ left₀ live₀ ns xs ys left live
-    loaded h = record { here = λ q g. l .here q (omega arith); ahead = l .ahead; lists = λ q g. l .lists q (omega arith); before = l .before }
+    pub loaded : length an ≤ k → Loaded an ax ay ac at ns₀ xs₀ ys₀ left₀ ns xs ys left
+    loaded h = record { here = λ q g. l .here q (omega arith); ahead = l .ahead }
 
 -- Both masters are copied, A's rows first.
-pub filled : (an : List ℕ) (ax ay : List ℤ) (ac bn : List ℕ) (bx by : List ℤ) (bc ns₀ : List ℕ) (xs₀ ys₀ : List ℤ) (left₀ live₀ ns₁ : List ℕ) (xs₁ ys₁ : List ℤ) (left₁ live₁ ns : List ℕ) (xs ys : List ℤ) (left live : List ℕ)
-    → Loaded an ax ay ac 0 ns₀ xs₀ ys₀ left₀ live₀ ns₁ xs₁ ys₁ left₁ live₁ → Loaded bn bx by bc (length an) ns₁ xs₁ ys₁ left₁ live₁ ns xs ys left live
-    → Filled an ax ay ac bn bx by bc ns xs ys left live
-filled an ax ay ac bn bx by bc ns₀ xs₀ ys₀ left₀ live₀ ns₁ xs₁ ys₁ left₁ live₁ ns xs ys left live la lb = record {
-  row-a = λ k h. lb .ahead k h ∙ ap (nodeAt ns₁ xs₁ ys₁ left₁) (sym (zero-add k)) ∙ la .here k h;
-  row-b = lb .here;
-  own = λ k h. own k h (decLt k (length an));
-}
-  where
-    own : (k : ℕ) → k < length an + length bn → Dec (k < length an) → getD live k 0 ≡ k
-    own k h (yes l) = lb .before k l ∙ ap (λ (i : ℕ). getD live₁ i 0) (sym (zero-add k)) ∙ la .lists k l ∙ zero-add k
-    own k h (no l) =
-        let e : length an + (k - length an) ≡ k = omega arith in
-        subst (λ (i : ℕ). getD live i 0 ≡ i) e (lb .lists (k - length an) (omega arith))
+pub filled : (an : List ℕ) (ax ay : List ℤ) (ac bn : List ℕ) (bx by : List ℤ) (bc ns₀ : List ℕ) (xs₀ ys₀ : List ℤ) (left₀ ns₁ : List ℕ) (xs₁ ys₁ : List ℤ) (left₁ ns : List ℕ) (xs ys : List ℤ) (left : List ℕ)
+    → Loaded an ax ay ac 0 ns₀ xs₀ ys₀ left₀ ns₁ xs₁ ys₁ left₁ → Loaded bn bx by bc (length an) ns₁ xs₁ ys₁ left₁ ns xs ys left
+    → Filled an ax ay ac bn bx by bc ns xs ys left
+filled an ax ay ac bn bx by bc ns₀ xs₀ ys₀ left₀ ns₁ xs₁ ys₁ left₁ ns xs ys left la lb =
+    record { row-a = λ k h. lb .ahead k h ∙ ap (nodeAt ns₁ xs₁ ys₁ left₁) (sym (zero-add k)) ∙ la .here k h; row-b = lb .here }
 
 tabulate-shift : {X : Type 0} (f g : ℕ → X) (a k n : ℕ) → ((i : ℕ) → k ≤ i → i < k + n → f (a + i) ≡ g i) → tabulate f (a + k) n ≡ tabulate g k n
 unfolding tabulate
@@ -143,7 +123,7 @@ module _ (ms : List ℕ) (us vs : List ℤ) (cs : List ℕ) (at : ℕ) (node : �
 
 -- The table has as many rows as both masters have nodes.
 module _ (an : List ℕ) (ax ay : List ℤ) (ac bn : List ℕ) (bx by : List ℤ) (bc : List ℕ) (fa : Fit an ax ay ac) (fb : Fit bn bx by bc)
-    (ns : List ℕ) (xs ys : List ℤ) (left live : List ℕ) (full : Full ns xs ys left live) (f : Filled an ax ay ac bn bx by bc ns xs ys left live) where
+    (ns : List ℕ) (xs ys : List ℤ) (left : List ℕ) (full : Full ns xs ys left) (f : Filled an ax ay ac bn bx by bc ns xs ys left) where
   abbrev n : ℕ
   n = length an + length bn
 
@@ -153,7 +133,7 @@ module _ (an : List ℕ) (ax ay : List ℤ) (ac bn : List ℕ) (bx by : List ℤ
   abbrev node : ℕ → Node
   node = nodeAt (take n ns) (take n xs) (take n ys) (take n left)
 
-  len : {X : Type 0} (l : List X) → length l ≡ 1024 → length (take n l) ≡ n
+  len : {X : Type 0} (l : List X) → length l ≡ tableRows → length (take n l) ≡ n
   len l e = length-take-le n l (omega (arith, fa .most, fb .most))
 
   part : (k : ℕ) → k < n → node k ≡ nodeAt ns xs ys left k
@@ -189,9 +169,9 @@ module _ (an : List ℕ) (ax ay : List ℤ) (ac bn : List ℕ) (bx by : List ℤ
   unfolding rest
   rest-join = λ t. join (nodes-of an ax ay ac 0 node row-a (length an - 0) (omega arith) t) (nodes-of bn bx by bc (length an) node row-b (size R - length an) (omega (arith, len ns (full .in-n))) t)
 
-  -- Each row is listed in its own place.
-  pub own-places : (length (take n live) ≡ length (take n ns)) × ((k : ℕ) → k < length (take n ns) → getD (take n live) k 0 ≡ k)
-  own-places = (len live (full .in-live) ∙ sym (len ns (full .in-n)), λ k h. own k (omega (arith, len ns (full .in-n))))
-    where
-      own : (k : ℕ) → k < n → getD (take n live) k 0 ≡ k
-      own k h = getD-take n live k 0 h ∙ f .own k h
+  -- Other columns of the table's size have as many places.
+  pub sized : (live spot kn : List ℕ) (kx ky : List ℤ) → length live ≡ tableRows → length spot ≡ tableRows → length kn ≡ tableRows → length kx ≡ tableRows → length ky ≡ tableRows
+      → Sized (lists (take n live) (take n spot) (take n kn) (take n kx) (take n ky)) (size R)
+  sized live spot kn kx ky a b c d e =
+      let f = sym (len ns (full .in-n)) in
+      record { in-live = len live a ∙ f; in-spot = len spot b ∙ f; in-n = len kn c ∙ f; in-x = len kx d ∙ f; in-y = len ky e ∙ f }

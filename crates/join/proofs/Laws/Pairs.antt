@@ -1,7 +1,8 @@
 -- The pair of two rows that face each other, seen from either. Assumes nothing.
-use Prim.Native.Nat.{ℕ, _+_, _*_, _^_, _<_}
+use Prim.Native.Nat.{ℕ, _+_, _*_, _^_, _<_, _≤_}
 use mathlib.Core.Path.{_≡_, refl, sym, _∙_, ap, ap₂}
 use mathlib.Core.List.{List}
+use native.Mathlib.Decide.{decLt}
 use native.Mathlib.Omega.{arith}
 use lib.ListN.{length, getD}
 use lib.IntN.{ℤ, pos, negℤ, natAbs, _+ℤ_, _-ℤ_, negℤ-negℤ, negℤ-+ℤ, +ℤ-comm}
@@ -15,6 +16,7 @@ use Rattle.matching.specs.Definitions.Pairs.{Pair, square, Before, nearer, lowe
 use Rattle.matching.specs.Laws.Distance.{abs-neg}
 use Rattle.matching.specs.Laws.Order.{before-trans, before-irrefl}
 use Rattle.matching.specs.Laws.Earliest.{Leq, strictly, equally}
+use Rattle.join.specs.Sizes.{numberRange}
 use Rattle.join.specs.Rows.{Columns, Placed, Rows, gap, On, Faces, faces, rowPair, between, Sound}
 use Rattle.join.specs.Nearest.{key}
 
@@ -43,6 +45,15 @@ shared masterB d n e m z (strictly (lowerA f h)) = strictly (lowerA f h)
 shared s d n e m z (strictly (lowerB f g h)) = absurd (omega arith)
 shared masterA d n e m z (equally f) = equally (ap (λ (q : Pair). record { distance = q .distance; a = z; b = q .a }) f)
 shared masterB d n e m z (equally f) = equally (ap (λ (q : Pair). record { distance = q .distance; a = q .a; b = z }) f)
+
+-- Packed keys are in the order of distances, then of numbers.
+pub leq-packed : (d n e m : ℕ) → n < numberRange → m < numberRange → d * numberRange + n ≤ e * numberRange + m → Leq (key d n) (key e m)
+leq-packed d n e m a b h = go (decLt d e) (decLt n m)
+  where
+    go : Dec (d < e) → Dec (n < m) → Leq (key d n) (key e m)
+    go (yes l) g = strictly (nearer l)
+    go (no l) (yes g) = strictly (lowerA (omega arith) g)
+    go (no l) (no g) = equally (ap₂ key (omega arith) (omega arith))
 
 pub not-before : {p q : Pair} → Leq p q → Before q p → ⊥
 not-before (strictly h) b = before-irrefl (before-trans h b)

@@ -24,6 +24,7 @@ use Rattle.matching.specs.Laws.Columns.{tabulate-length, tabulate-all}
 use Rattle.matching.specs.Laws.Sums.{all-pairs, all-nodes}
 use Rattle.matching.specs.Theorems.Join.{join-sorted, join-count}
 use Rattle.matching.specs.Theorems.Mutual.{putLink, mutual-first}
+use Rattle.join.specs.Sizes.{linkRows}
 use Rattle.join.specs.Rows.{Rows, gap, size, from, to, On, faces, rowPair, nodesOn, rest, Sound}
 use Rattle.join.specs.Nearest.{Chosen}
 use Rattle.join.proofs.Laws.Pairs.{between-on}
@@ -147,7 +148,7 @@ module _ (R : Rows) (left : List ℕ) (v : Sound R left) where
       join-sorted (nodesOn R masterA left) (nodesOn R masterB left)
       ∙ along-none (sort P) C (all-sort (λ q. lesser C q ≡ 0) P (all-rows (λ q. lesser C q ≡ 0) (λ i j hi hj. lesser-is i j hi hj ∙ h i j hi hj)))
 
-  pub rest-count : length (rest R left) ≤ 1023
+  pub rest-count : length (rest R left) ≤ linkRows
   unfolding rest
   rest-count = omega (
     arith,

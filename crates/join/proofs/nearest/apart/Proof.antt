@@ -3,7 +3,7 @@ use lib.IntN.{pos}
 use lib.ListN.{getD}
 use borrow.Author.Needs.{needs}
 use Rattle.matching.specs.Laws.Distance.{inside-reach}
-use Rattle.join.specs.Rows.{gap}
+use Rattle.join.specs.Nearest.{across}
 use Rattle.join.proofs.Laws.Pairs.{back}
 use Rattle.join.proofs.nearest.apart.Statement.{statement}
 use Rattle.join.proofs.nearest.apart.Tie as tie
@@ -36,26 +36,26 @@ squared-distance-requires : tie.Need-squared-distance-requires
 squared-distance-requires c κs =
     let s = c .before .before .before .before .args in
     let t = s .t in
-    let j = s .j in
+    let k = s .k in
     rw (
       back (getD (s .xs .now) t (pos 0)) (c .before .before .before .squared-distance-arg .given),
       back (getD (s .ys .now) t (pos 0)) (c .before .before .squared-distance-arg2 .given),
-      back (getD (s .xs .now) j (pos 0)) (c .before .squared-distance-arg3 .given),
-      back (getD (s .ys .now) j (pos 0)) (c .squared-distance-arg4 .given),
+      back (getD (s .kx .now) k (pos 0)) (c .before .squared-distance-arg3 .given),
+      back (getD (s .ky .now) k (pos 0)) (c .squared-distance-arg4 .given),
     )
-    (inside-reach (getD (s .xs .now) t (pos 0)) (getD (s .ys .now) t (pos 0)) (getD (s .xs .now) j (pos 0)) (getD (s .ys .now) j (pos 0)) (c .before .before .before .before .pre .0 .inside) (c .before .before .before .before .pre .1 .inside))
+    (inside-reach (getD (s .xs .now) t (pos 0)) (getD (s .ys .now) t (pos 0)) (getD (s .kx .now) k (pos 0)) (getD (s .ky .now) k (pos 0)) (c .before .before .before .before .pre .0 .inside) (c .before .before .before .before .pre .1 .inside))
 
 returns : tie.Need-returns
-unfolding gap
+unfolding across
 returns c =
     let s = c .before .before .before .before .before .args in
     let t = s .t in
-    let j = s .j in
+    let k = s .k in
     rw (
       back (getD (s .xs .now) t (pos 0)) (c .before .before .before .before .squared-distance-arg .given),
       back (getD (s .ys .now) t (pos 0)) (c .before .before .before .squared-distance-arg2 .given),
-      back (getD (s .xs .now) j (pos 0)) (c .before .before .squared-distance-arg3 .given),
-      back (getD (s .ys .now) j (pos 0)) (c .before .squared-distance-arg4 .given),
+      back (getD (s .kx .now) k (pos 0)) (c .before .before .squared-distance-arg3 .given),
+      back (getD (s .ky .now) k (pos 0)) (c .before .squared-distance-arg4 .given),
     )
     at (c .squared-distance .ensures)
 

@@ -1,7 +1,7 @@
 -- `rows::list` meets its contract: one case for each way out. Assumes nothing.
 use mathlib.Core.Path.{refl}
 use borrow.Author.Needs.{needs}
-use Rattle.join.specs.Live.{passed, entered}
+use Rattle.join.specs.Live.{passes, enters}
 use Rattle.join.proofs.rows.list.Statement.{statement}
 use Rattle.join.proofs.rows.list.Tie as tie
 
@@ -12,13 +12,10 @@ shared-slice-read-if1 : tie.Need-shared-slice-read-if1
 shared-slice-read-if1 c = search needs
 
 returns : tie.Need-returns
-returns c = passed (c .if1 .taken) refl refl
+returns c = passes (c .if1 .taken) refl refl
 
-mul-live : tie.Need-mul-live
-mul-live c = search needs
-
-slice-write-live : tie.Need-slice-write-live
-slice-write-live c = search needs
+enter-requires : tie.Need-enter-requires
+enter-requires c κs = search needs
 
 add-result : tie.Need-add-result
 add-result c = search needs
@@ -26,8 +23,20 @@ add-result c = search needs
 same-length : tie.Need-same-length
 same-length c = search needs
 
+same-length-2 : tie.Need-same-length-2
+same-length-2 c = search needs
+
+same-length-3 : tie.Need-same-length-3
+same-length-3 c = search needs
+
+same-length-4 : tie.Need-same-length-4
+same-length-4 c = search needs
+
+same-length-5 : tie.Need-same-length-5
+same-length-5 c = search needs
+
 returns-2 : tie.Need-returns-2
-returns-2 c = entered (c .if1 .left) refl refl
+returns-2 c = enters (c .before .before .before .before .before .before .before .before .before .before .before .before .before .before .if1 .left) (c .before .before .before .before .before .before .before .before .enter .ensures) refl
 
 pub list-spec : {M : Type 1} → statement M
 list-spec =
@@ -36,8 +45,11 @@ list-spec =
     mul-if1
     shared-slice-read-if1
     returns
-    mul-live
-    slice-write-live
+    enter-requires
     add-result
     same-length
+    same-length-2
+    same-length-3
+    same-length-4
+    same-length-5
     returns-2)

@@ -1,6 +1,8 @@
--- `rows::refresh` meets its contract: where the row has something left, all listed rows have. Assumes nothing.
+-- `rows::refresh` meets its contract: one case for each way out. Assumes nothing.
+use mathlib.Core.Path.{refl}
+use native.Mathlib.Omega.{arith}
 use borrow.Author.Needs.{needs}
-use Rattle.join.proofs.Laws.Live.{kept-all}
+use Rattle.join.specs.Live.{stays, leaves}
 use Rattle.join.proofs.rows.refresh.Statement.{statement}
 use Rattle.join.proofs.rows.refresh.Tie as tie
 
@@ -11,17 +13,64 @@ shared-slice-read-if1 : tie.Need-shared-slice-read-if1
 shared-slice-read-if1 c = search needs
 
 returns : tie.Need-returns
-returns c = let p = c .before .before .before .before .pre in kept-all _ _ _ _ (c .before .before .before .before .args .row) (p .0 .0 .low) (p .1) (c .if1 .taken)
+returns c = stays (c .if1 .taken) refl refl
 
-keep-requires : tie.Need-keep-requires
-keep-requires c κs = search needs
+sub-r : tie.Need-sub-r
+sub-r c = search needs
+
+mul-r : tie.Need-mul-r
+mul-r c = search needs
+
+slice-read-r : tie.Need-slice-read-r
+slice-read-r c = search needs
+
+mul-w : tie.Need-mul-w
+mul-w c = search needs
+
+slice-read-w : tie.Need-slice-read-w
+slice-read-w c = search needs
+
+enter-requires : tie.Need-enter-requires
+enter-requires c κs = search needs
+
+sub-result : tie.Need-sub-result
+sub-result c = search needs
 
 same-length : tie.Need-same-length
 same-length c = search needs
 
+same-length-2 : tie.Need-same-length-2
+same-length-2 c = search needs
+
+same-length-3 : tie.Need-same-length-3
+same-length-3 c = search needs
+
+same-length-4 : tie.Need-same-length-4
+same-length-4 c = search needs
+
+same-length-5 : tie.Need-same-length-5
+same-length-5 c = search needs
+
 returns-2 : tie.Need-returns-2
-returns-2 c = search needs
+returns-2 c = leaves (omega (arith, c .before .before .before .before .before .before .before .before .before .before .before .before .before .before .before .before .if1 .left)) (c .before .before .before .before .before .before .before .before .enter .ensures) refl
 
 pub refresh-spec : {M : Type 1} → statement M
 refresh-spec =
-    tie.close (tie.spec mul-if1 shared-slice-read-if1 returns keep-requires same-length returns-2)
+    tie.close
+    (tie.spec
+    mul-if1
+    shared-slice-read-if1
+    returns
+    sub-r
+    mul-r
+    slice-read-r
+    mul-w
+    slice-read-w
+    enter-requires
+    sub-result
+    same-length
+    same-length-2
+    same-length-3
+    same-length-4
+    same-length-5
+    returns-2)
