@@ -1,0 +1,3 @@
+-- Laws that the programs' proofs lean on.
+pub mod Text
+pub mod Lines
