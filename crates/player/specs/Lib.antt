@@ -1,3 +1,5 @@
--- The replay program's text. A reader may stop after Definitions; Laws holds what the programs' proofs need.
+-- The replay program's text. A reader may stop after Definitions, and see in Cases the lines that they give.
+-- Laws holds what the programs' proofs need.
 pub mod Definitions
+pub mod Cases
 pub mod Laws

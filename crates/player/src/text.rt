@@ -1,6 +1,5 @@
 // Words and numbers written into a lent text, each at a place and giving its end.
 ghost use Prim.Native.Nat.{_+_, _≤_};
-ghost use mathlib.Core.Path.{_≡_};
 ghost use lib.ListN.{length};
 ghost use Rattle.player.specs.Definitions.Text.{decimal, field, lastField, Written};
 use tables::edits::copy_at;

@@ -23,12 +23,15 @@ pub record Drawing : Type 0 where
   pub b : List ℕ
   pub list : List ℕ
 
+abbrev pub drawing : List ℕ → List ℕ → List ℕ → Drawing
+drawing a b l = record { a = a; b = b; list = l }
+
 -- What Edit does with it.
 abbrev pub outcomeOf : Drawing → List ℕ → Outcome
 outcomeOf d e = editCall (d .a) (d .b) (d .list) e
 
 abbrev pub after : Drawing → List ℕ → Drawing
-after d e = record { a = outcomeOf d e .a; b = outcomeOf d e .b; list = outcomeOf d e .list }
+after d e = drawing (outcomeOf d e .a) (outcomeOf d e .b) (outcomeOf d e .list)
 
 -- The line of edit e, the n-th.
 unfoldable pub turnLine : ℕ → Drawing → List ℕ → List ℕ
@@ -65,22 +68,30 @@ unfoldable pub playLines : Drawing → List ℕ → List ℕ
 unfolding editLines leftLine linkLines edited
 playLines d es = editLines d es (playable (length es)) ++ leftLine (length es) ++ linkLines (edited d es (playable (length es)) .list)
 
--- Two tables are loaded into a zero list, and where they are accepted es is played.
-unfoldable pub loadLines : List ℕ → List ℕ → List ℕ → List ℕ
+-- Two tables are loaded, and where they are accepted es is played.
+unfoldable pub loadLines : List ℕ → List ℕ → List ℕ → List ℕ → List ℕ
 unfolding loadLine playLines
-loadLines a b es =
-    let o : Outcome = pairCall a b (replicate listSize 0) in
+loadLines a b l es =
+    let o : Outcome = pairCall a b l in
     cond (eqb (refusalIn (o .code)) 0)
-    (loadLine (o .code) ++ playLines (record { a = a; b = b; list = o .list }) es)
+    (loadLine (o .code) ++ playLines (drawing a b (o .list)) es)
     (loadLine (o .code))
 
+-- The list is zero at first.
 unfoldable pub transcript : List ℕ → List ℕ
 unfolding loadLines
 transcript input =
     cond (ltb (length input) tablesSize)
     shortLine
-    (loadLines (take tableSize input) (take tableSize (drop tableSize input)) (drop tablesSize input))
+    (loadLines (take tableSize input) (take tableSize (drop tableSize input)) (replicate listSize 0) (drop tablesSize input))
 
--- Room for any transcript: the load line, the edits, what is left over, the links.
+-- Room for what follows the load line: the edits, what is left over, the links; and for all.
+abbrev pub playRoom : ℕ
+playRoom = lineRoom * (editsMost + 1 + linkRows)
+
 abbrev pub textRoom : ℕ
-textRoom = lineRoom * (1 + editsMost + 1 + linkRows)
+textRoom = lineRoom + playRoom
+
+-- What is read at most.
+abbrev pub inputRoom : ℕ
+inputRoom = tablesSize + editSize * editsMost

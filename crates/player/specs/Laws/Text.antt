@@ -12,7 +12,7 @@ use borrow.Author.Tests.{lt-ltb, le-ltb}
 use Rattle.tables.specs.Definitions.Rows.{put}
 use Rattle.tables.specs.Laws.Rows.{put-none, put-cons}
 use Rattle.tables.specs.Laws.ListCode.{put-next}
-use Rattle.player.specs.Definitions.Text.{digit, digits, decimal, field, Written}
+use Rattle.player.specs.Definitions.Text.{digit, digits, decimal, Written}
 
 -- Any number of digits that is enough serves.
 enough : (k m n : ℕ) → n < k → n < m → digits k n ≡ digits m n
@@ -58,7 +58,11 @@ decimal-length (suc k) n h = go (decLt n 10) (decimal-length k (n / 10) (omega (
 pub decimal-short : (n : ℕ) → n < 2 ^ 32 → length (decimal n) ≤ 10
 decimal-short n h = decimal-length 9 n (omega arith)
 
--- One byte stored,
+-- Nothing written,
+pub written-none : (t : List ℕ) (at : ℕ) → Written t at [] t at
+written-none t at = record { end = omega arith; text = sym (put-none t at) }
+
+-- one byte stored,
 pub written-byte : (t : List ℕ) (at v : ℕ) → at < length t → Written t at (v ∷ []) (set t at v) (at + 1)
 written-byte t at v h = record { end = refl; text = sym (put-cons t at v [] h ∙ put-none (set t at v) (suc at)) }
 

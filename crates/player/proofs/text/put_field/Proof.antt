@@ -1,7 +1,6 @@
 -- `player::text::put_field` meets its contract: a number behind a word. Assumes nothing.
 use borrow.Author.Needs.{needs}
 use native.Mathlib.Omega.{arith}
-use lib.ListN.{length-append}
 use Rattle.player.specs.Definitions.Text.{decimal, field}
 use Rattle.player.specs.Laws.Text.{decimal-short, written-then}
 use Rattle.player.proofs.text.put_field.Statement.{statement}
