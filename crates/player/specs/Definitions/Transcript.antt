@@ -77,13 +77,23 @@ loadLines a b l es =
     (loadLine (o .code) ++ playLines (drawing a b (o .list)) es)
     (loadLine (o .code))
 
+-- An input is table A, table B, and edits.
+abbrev pub tableA : List ℕ → List ℕ
+tableA input = take tableSize input
+
+abbrev pub tableB : List ℕ → List ℕ
+tableB input = take tableSize (drop tableSize input)
+
+abbrev pub editsIn : List ℕ → List ℕ
+editsIn input = drop tablesSize input
+
 -- The list is zero at first.
 unfoldable pub transcript : List ℕ → List ℕ
 unfolding loadLines
 transcript input =
     cond (ltb (length input) tablesSize)
     shortLine
-    (loadLines (take tableSize input) (take tableSize (drop tableSize input)) (replicate listSize 0) (drop tablesSize input))
+    (loadLines (tableA input) (tableB input) (replicate listSize 0) (editsIn input))
 
 -- Room for what follows the load line: the edits, what is left over, the links; and for all.
 abbrev pub playRoom : ℕ

@@ -14,7 +14,7 @@ use Rattle.tables.specs.Laws.ListCode.{put-all}
 use Rattle.contract.specs.Definitions.Calls.{Outcome, pairCall, editCall}
 use Rattle.player.specs.Definitions.Text.{Written}
 use Rattle.player.specs.Definitions.Lines.{refusalIn, loadLine, editLine, partLine, shortLine}
-use Rattle.player.specs.Definitions.Transcript.{Drawing, drawing, after, turnLine, editAt, edited, editLines, editsMost, tablesSize, leftLine, linkLines, playable, playLines, loadLines, transcript}
+use Rattle.player.specs.Definitions.Transcript.{Drawing, drawing, after, turnLine, editAt, edited, editLines, editsMost, tablesSize, leftLine, linkLines, playable, playLines, loadLines, tableA, tableB, editsIn, transcript}
 use Rattle.player.specs.Laws.Text.{written-none, written-then, written-as}
 
 -- One edit.
@@ -94,10 +94,9 @@ module _ (input : List ℕ) where
   unfolding transcript
   input-short h = rw (lt-ltb (length input) tablesSize h)
 
-  pub input-whole : (a b : List ℕ) → tablesSize ≤ length input → a ≡ take tableSize input → b ≡ take tableSize (drop tableSize input)
-      → loadLines a b (replicate listSize 0) (drop tablesSize input) ≡ transcript input
+  pub input-whole : (a b : List ℕ) → tablesSize ≤ length input → a ≡ tableA input → b ≡ tableB input → loadLines a b (replicate listSize 0) (editsIn input) ≡ transcript input
   unfolding transcript
-  input-whole a b h e f = rw (le-ltb (length input) tablesSize h) (ap₂ (λ (u v : List ℕ). loadLines u v (replicate listSize 0) (drop tablesSize input)) e f)
+  input-whole a b h e f = rw (le-ltb (length input) tablesSize h) (ap₂ (λ (u v : List ℕ). loadLines u v (replicate listSize 0) (editsIn input)) e f)
 
 -- A buffer of zeros that bytes are copied over.
 pub copied : (n : ℕ) (vs : List ℕ) → length vs ≡ n → put (replicate n 0) 0 vs ≡ vs
