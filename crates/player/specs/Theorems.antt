@@ -1,5 +1,5 @@
 -- What is proved of the transcript beside the programs' contracts.
-use Prim.Native.Nat.{ℕ, zero, suc, _+_, _*_, _-_, _/_, _≤_, _<_}
+use Prim.Native.Nat.{ℕ, zero, suc, _+_, _*_, _-_, _≤_, _<_}
 use mathlib.Core.Path.{_≡_, refl, sym, _∙_, ap, ap₂}
 use mathlib.Core.Bool.{cond}
 use mathlib.Core.List.{List, [], _++_}
@@ -12,7 +12,7 @@ use lib.Seq.{length-take-le, take-all, take-take, take-add, drop-at}
 use Rattle.tables.specs.Definitions.Sizes.{tableSize, listSize, editSize}
 use Rattle.contract.specs.Definitions.Calls.{Outcome, pairCall}
 use Rattle.player.specs.Definitions.Lines.{refusalIn, loadLine}
-use Rattle.player.specs.Definitions.Transcript.{Drawing, drawing, after, turnLine, editAt, edited, editLines, editsMost, tablesSize, leftLine, linkLines, playable, playLines, loadLines, tableA, tableB, editsIn, transcript, inputRoom}
+use Rattle.player.specs.Definitions.Transcript.{Drawing, drawing, after, turnLine, editAt, edited, editLines, editsMost, tablesSize, linkLines, playable, playLines, loadLines, tableA, tableB, editsIn, transcript, inputRoom}
 use Rattle.player.specs.Laws.Play.{left-unread, input-whole}
 
 drop-take : (n m : ℕ) (l : List ℕ) → n ≤ length l → drop n (take (n + m) l) ≡ take m (drop n l)

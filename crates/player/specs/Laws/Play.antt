@@ -5,9 +5,9 @@ use mathlib.Core.Bool.{cond}
 use mathlib.Core.List.{List, [], _∷_, _++_}
 use native.Mathlib.Numerals.{add-one}
 use lib.Dec.{eqb}
-use lib.ListN.{length, take, drop, replicate, length-replicate}
+use lib.ListN.{length, replicate, length-replicate}
 use borrow.Author.Tests.{lt-ltb, le-ltb, eq-eqb, ne-eqb}
-use Rattle.tables.specs.Definitions.Sizes.{tableSize, listSize, editSize}
+use Rattle.tables.specs.Definitions.Sizes.{listSize, editSize}
 use Rattle.tables.specs.Definitions.Rows.{put}
 use Rattle.tables.specs.Definitions.Lists.{linksIn}
 use Rattle.tables.specs.Laws.ListCode.{put-all}
