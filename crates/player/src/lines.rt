@@ -6,6 +6,9 @@ ghost use Rattle.player.specs.Definitions.Lines.{lineRoom, loadLine, edi
 use super::text::put_field;
 use super::text::put_last;
 
+// Room for any line.
+pub const LINE: usize = 64;
+
 // A call's answer is the refusal number times this plus the value.
 pub const VALUES: u32 = 65536;
 
