@@ -117,7 +117,7 @@ pub fn apply(c: Change, t: &mut [u8], edit: &[u8], count: usize, place: usize)
     }
 }
 
-fn copy_at(t: &mut [u8], at: usize, from: &[u8])
+pub fn copy_at(t: &mut [u8], at: usize, from: &[u8])
     requires { ⌜ at + length (now from) ≤ length (now t) ⌝ }
     ensures { λ _. ⌜ now (t .exit) ≡ put (now (t .entry)) at (now (from .entry)) ⌝ }
 {
