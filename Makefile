@@ -1,9 +1,10 @@
 # make test   the gate: proofs, must-fail edits, tests; its last line is "N passed, 0 failed"
-# make run    the main job
+# make run    builds the replay program and replays a sample drawing: its links before and after two edits
+# make proved proves every crate and prints what is proved
 # make bench  the engine's join timed beside two ordinary ones
 # make fuzz   the five calls beside the model on fresh seeds, for SECONDS=n (60)
 # make help   this list
-.PHONY: help test run bench fuzz
+.PHONY: help test run bench fuzz proved
 
 SECONDS = 60
 
@@ -14,11 +15,15 @@ test:
 	@tools/gate
 
 run:
+	@mkdir -p target
+	@rt check replay >target/run.log 2>&1 || { cat target/run.log; exit 1; }
+	@target/bin/replay <crates/replay/stdin
+
+proved:
 	@tools/proved
 
 bench:
 	@rt staticlib pairing
-	@rt staticlib probe
 	@cargo run --release --offline --manifest-path rust/bench/Cargo.toml
 
 fuzz:
