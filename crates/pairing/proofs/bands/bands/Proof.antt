@@ -3,6 +3,7 @@ use mathlib.Core.Path.{refl, sym}
 use native.Mathlib.Omega.{arith}
 use borrow.Author.Tests.{eq-eqb, ne-eqb}
 use Rattle.contract.specs.Definitions.Requests.{bands}
+use Rattle.pairing.specs.Verdicts.{Finished}
 use Rattle.pairing.specs.Laws.Verdicts.{list-links, cut-distances}
 use Rattle.pairing.specs.Laws.Calls.{own-call, list-call, bands-call}
 use borrow.Author.Needs.{needs}
@@ -33,26 +34,24 @@ enum-known-answer c = search needs
 cast-n : tie.Need-cast-n
 cast-n c = search needs
 
-array-share-prefix-ld : tie.Need-array-share-prefix-ld
-array-share-prefix-ld c =
+-- The list is finished, and the columns have its links.
+found : (c : tie.After-known-told) →
     let x = c .before .before .before .before .before .before .before .before .before .before .before .before .before .before .before .before .before .args in
     let l = c .before .before .before .before .before .before .before .list .last .1 .1 .1 in
-    let f = list-links (x .a .now) (x .b .now) (x .list .now) (l .0) (l .1 .0) (l .1 .1 .0) (l .1 .1 .1 .0) (c .before .before .before .before .before .before .before .list .result) (c .before .before .before .before .before .before .before .list .ensures) _ (c .before .answer .given .1) in
-    omega (arith, f .joined .most)
+    Finished (x .a .now) (x .b .now) (x .list .now) (l .0) (l .1 .0) (l .1 .1 .0) (l .1 .1 .1 .0) (c .before .answer .given .0 .0)
+found c =
+    let x = c .before .before .before .before .before .before .before .before .before .before .before .before .before .before .before .before .before .args in
+    let l = c .before .before .before .before .before .before .before .list .last .1 .1 .1 in
+    list-links (x .a .now) (x .b .now) (x .list .now) (l .0) (l .1 .0) (l .1 .1 .0) (l .1 .1 .1 .0) (c .before .before .before .before .before .before .before .list .result) (c .before .before .before .before .before .before .before .list .ensures) _ (c .before .answer .given .1)
+
+array-share-prefix-ld : tie.Need-array-share-prefix-ld
+array-share-prefix-ld c = omega (arith, found c .joined .most)
 
 slice-aggregate-count-bands : tie.Need-slice-aggregate-count-bands
-slice-aggregate-count-bands c =
-    let x = c .before .before .before .before .before .before .before .before .before .before .before .before .before .before .before .before .before .before .args in
-    let l = c .before .before .before .before .before .before .before .before .list .last .1 .1 .1 in
-    let f = list-links (x .a .now) (x .b .now) (x .list .now) (l .0) (l .1 .0) (l .1 .1 .0) (l .1 .1 .1 .0) (c .before .before .before .before .before .before .before .before .list .result) (c .before .before .before .before .before .before .before .before .list .ensures) _ (c .before .before .answer .given .1) in
-    sym (cut-distances f)
+slice-aggregate-count-bands c = sym (cut-distances (found (c .before)))
 
 count-bands-requires : tie.Need-count-bands-requires
-count-bands-requires c κs =
-    let x = c .before .before .before .before .before .before .before .before .before .before .before .before .before .before .before .before .before .before .before .args in
-    let l = c .before .before .before .before .before .before .before .before .before .list .last .1 .1 .1 in
-    let f = list-links (x .a .now) (x .b .now) (x .list .now) (l .0) (l .1 .0) (l .1 .1 .0) (l .1 .1 .1 .0) (c .before .before .before .before .before .before .before .before .before .list .result) (c .before .before .before .before .before .before .before .before .before .list .ensures) _ (c .before .before .before .answer .given .1) in
-    (omega (arith, cut-distances f, f .joined .most), c .before .before .before .before .before .before .before .before .before .before .before .before .before .before .if1 .left)
+count-bands-requires c κs = let f = found (c .before .before) in (omega (arith, cut-distances f, f .joined .most), c .before .before .before .before .before .before .before .before .before .before .before .before .before .before .if1 .left)
 
 same-length : tie.Need-same-length
 same-length c = search needs
@@ -61,8 +60,7 @@ returns-2 : tie.Need-returns-2
 returns-2 c =
     let x = c .before .before .before .before .before .before .before .before .before .before .before .before .before .before .before .before .before .before .before .before .before .before .args in
     let l = c .before .before .before .before .before .before .before .before .before .before .before .before .list .last .1 .1 .1 in
-    let f = list-links (x .a .now) (x .b .now) (x .list .now) (l .0) (l .1 .0) (l .1 .1 .0) (l .1 .1 .1 .0) (c .before .before .before .before .before .before .before .before .before .before .before .before .list .result) (c .before .before .before .before .before .before .before .before .before .before .before .before .list .ensures) _ (c .before .before .before .before .before .before .answer .given .1) in
-    bands-call (x .a .now) (x .b .now) (x .list .now) (l .0) (l .1 .0) (l .1 .1 .0) (l .1 .1 .1 .0) _ f (x .counts .now) _ (eq-eqb _ _ (c .before .before .before .before .before .before .before .before .before .before .before .before .before .before .before .before .before .if1 .left)) (c .before .before .count-bands .ensures)
+    bands-call (x .a .now) (x .b .now) (x .list .now) (l .0) (l .1 .0) (l .1 .1 .0) (l .1 .1 .1 .0) _ (found (c .before .before .before .before .before)) (x .counts .now) _ (eq-eqb _ _ (c .before .before .before .before .before .before .before .before .before .before .before .before .before .before .before .before .before .if1 .left)) (c .before .before .count-bands .ensures)
 
 returns-3 : tie.Need-returns-3
 returns-3 c =

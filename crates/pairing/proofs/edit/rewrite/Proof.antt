@@ -1,5 +1,5 @@
 -- `pairing::edit::rewrite` meets its contract: the rows in common stay, the part from there on comes back written. Assumes nothing.
-use Prim.Native.Nat.{_*_}
+use Prim.Native.Nat.{_*_, _≤_}
 use mathlib.Core.Path.{_∙_}
 use native.Mathlib.Omega.{arith}
 use Rattle.tables.specs.Definitions.Sizes.{linkSize}
@@ -41,23 +41,21 @@ slice-aggregate-common-rows-4 c = search needs
 common-rows-requires : tie.Need-common-rows-requires
 common-rows-requires c κs = search needs
 
-mul-at : tie.Need-mul-at
-mul-at c =
+-- No more rows are kept than there are links.
+kept : (c : tie.After-common-rows) → c .common-rows .result ≤ c .before .before .before .before .before .before .before .before .before .links .result
+kept c =
     let x = c .before .before .before .before .before .before .before .before .before .before .before .before .before .before .before .before .before .before .before .before .before .args in
     let j = c .before .before .before .before .before .before .before .before .before .links .ensures in
-    record { fits = omega (arith, kept-low (x .a .now) (x .b .now) (c .before .before .before .before .before .before .before .before .before .before .before .before .before .before .before .before .before .before .before .before .before .pre .0) (bytes-known (x .a .now) (c .before .before .before .before .before .before .before .before .before .before .before .before .before .before .before .before .before .before .before .before .shared-slice-known .given)) (bytes-known (x .b .now) (c .before .before .before .before .before .before .before .before .before .before .before .before .before .before .before .before .before .before .before .shared-slice-known2 .given)) (x .list .now) (x .la .now) (x .lb .now) (x .ld .now) (x .lm .now) (x .n) _ _ _ _ _ j _ (c .common-rows .ensures .0), j .most) }
+    kept-low (x .a .now) (x .b .now) (c .before .before .before .before .before .before .before .before .before .before .before .before .before .before .before .before .before .before .before .before .before .pre .0) (bytes-known (x .a .now) (c .before .before .before .before .before .before .before .before .before .before .before .before .before .before .before .before .before .before .before .before .shared-slice-known .given)) (bytes-known (x .b .now) (c .before .before .before .before .before .before .before .before .before .before .before .before .before .before .before .before .before .before .before .shared-slice-known2 .given)) (x .list .now) (x .la .now) (x .lb .now) (x .ld .now) (x .lm .now) (x .n) _ _ _ _ _ j _ (c .common-rows .ensures .0)
+
+mul-at : tie.Need-mul-at
+mul-at c = record { fits = omega (arith, kept c, c .before .before .before .before .before .before .before .before .before .links .ensures .most) }
 
 sub-write-links : tie.Need-sub-write-links
-sub-write-links c =
-    let x = c .before .before .before .before .before .before .before .before .before .before .before .before .before .before .before .before .before .before .before .before .before .args in
-    let j = c .before .before .before .before .before .before .before .before .before .links .ensures in
-    omega (arith, kept-low (x .a .now) (x .b .now) (c .before .before .before .before .before .before .before .before .before .before .before .before .before .before .before .before .before .before .before .before .before .pre .0) (bytes-known (x .a .now) (c .before .before .before .before .before .before .before .before .before .before .before .before .before .before .before .before .before .before .before .before .shared-slice-known .given)) (bytes-known (x .b .now) (c .before .before .before .before .before .before .before .before .before .before .before .before .before .before .before .before .before .before .before .shared-slice-known2 .given)) (x .list .now) (x .la .now) (x .lb .now) (x .ld .now) (x .lm .now) (x .n) _ _ _ _ _ j _ (c .common-rows .ensures .0), j .most, c .before .before .before .before .before .before .before .before .before .before .before .before .before .before .before .before .before .before .before .before .before .pre .1)
+sub-write-links c = omega (arith, kept c, c .before .before .before .before .before .before .before .before .before .links .ensures .most, c .before .before .before .before .before .before .before .before .before .before .before .before .before .before .before .before .before .before .before .before .before .pre .1)
 
 part-write-links-start : tie.Need-part-write-links-start
-part-write-links-start c =
-    let x = c .before .before .before .before .before .before .before .before .before .before .before .before .before .before .before .before .before .before .before .before .before .args in
-    let j = c .before .before .before .before .before .before .before .before .before .links .ensures in
-    omega (arith, kept-low (x .a .now) (x .b .now) (c .before .before .before .before .before .before .before .before .before .before .before .before .before .before .before .before .before .before .before .before .before .pre .0) (bytes-known (x .a .now) (c .before .before .before .before .before .before .before .before .before .before .before .before .before .before .before .before .before .before .before .before .shared-slice-known .given)) (bytes-known (x .b .now) (c .before .before .before .before .before .before .before .before .before .before .before .before .before .before .before .before .before .before .before .shared-slice-known2 .given)) (x .list .now) (x .la .now) (x .lb .now) (x .ld .now) (x .lm .now) (x .n) _ _ _ _ _ j _ (c .common-rows .ensures .0), j .most, c .before .before .before .before .before .before .before .before .before .before .before .before .before .before .before .before .before .before .before .before .before .pre .1)
+part-write-links-start c = omega (arith, kept c, c .before .before .before .before .before .before .before .before .before .links .ensures .most, c .before .before .before .before .before .before .before .before .before .before .before .before .before .before .before .before .before .before .before .before .before .pre .1)
 
 part-write-links-end : tie.Need-part-write-links-end
 part-write-links-end c = search needs
@@ -78,7 +76,7 @@ write-links-requires : tie.Need-write-links-requires
 write-links-requires c κs =
     let x = c .before .before .before .before .before .before .before .before .before .before .before .before .before .before .before .before .before .before .before .before .before .before .before .before .before .before .args in
     let j = c .before .before .before .before .before .before .before .before .before .before .before .before .before .before .links .ensures in
-    let k = kept-low (x .a .now) (x .b .now) (c .before .before .before .before .before .before .before .before .before .before .before .before .before .before .before .before .before .before .before .before .before .before .before .before .before .before .pre .0) (bytes-known (x .a .now) (c .before .before .before .before .before .before .before .before .before .before .before .before .before .before .before .before .before .before .before .before .before .before .before .before .before .shared-slice-known .given)) (bytes-known (x .b .now) (c .before .before .before .before .before .before .before .before .before .before .before .before .before .before .before .before .before .before .before .before .before .before .before .before .shared-slice-known2 .given)) (x .list .now) (x .la .now) (x .lb .now) (x .ld .now) (x .lm .now) (x .n) _ _ _ _ _ j _ (c .before .before .before .before .before .common-rows .ensures .0) in
+    let k = kept (c .before .before .before .before .before) in
     ((omega (arith, k, j .most, c .before .before .before .before .before .before .before .before .before .before .before .before .before .before .before .before .before .before .before .before .before .before .before .before .before .before .pre .1), k, j .most), joined-long (x .a .now) (x .b .now) (c .before .before .before .before .before .before .before .before .before .before .before .before .before .before .before .before .before .before .before .before .before .before .before .before .before .before .pre .0) (bytes-known (x .a .now) (c .before .before .before .before .before .before .before .before .before .before .before .before .before .before .before .before .before .before .before .before .before .before .before .before .before .shared-slice-known .given)) (bytes-known (x .b .now) (c .before .before .before .before .before .before .before .before .before .before .before .before .before .before .before .before .before .before .before .before .before .before .before .before .shared-slice-known2 .given)) (x .list .now) _ _ _ _ _ j)
 
 same-length : tie.Need-same-length
@@ -88,7 +86,7 @@ returns : tie.Need-returns
 returns c =
     let x = c .before .before .before .before .before .before .before .before .before .before .before .before .before .before .before .before .before .before .before .before .before .before .before .before .before .before .before .before .before .args in
     let j = c .before .before .before .before .before .before .before .before .before .before .before .before .before .before .before .before .before .links .ensures in
-    let k = kept-low (x .a .now) (x .b .now) (c .before .before .before .before .before .before .before .before .before .before .before .before .before .before .before .before .before .before .before .before .before .before .before .before .before .before .before .before .before .pre .0) (bytes-known (x .a .now) (c .before .before .before .before .before .before .before .before .before .before .before .before .before .before .before .before .before .before .before .before .before .before .before .before .before .before .before .before .shared-slice-known .given)) (bytes-known (x .b .now) (c .before .before .before .before .before .before .before .before .before .before .before .before .before .before .before .before .before .before .before .before .before .before .before .before .before .before .before .shared-slice-known2 .given)) (x .list .now) (x .la .now) (x .lb .now) (x .ld .now) (x .lm .now) (x .n) _ _ _ _ _ j _ (c .before .before .before .before .before .before .before .before .common-rows .ensures .0) in
+    let k = kept (c .before .before .before .before .before .before .before .before) in
     rewritten (x .a .now) (x .b .now) (c .before .before .before .before .before .before .before .before .before .before .before .before .before .before .before .before .before .before .before .before .before .before .before .before .before .before .before .before .before .pre .0) (bytes-known (x .a .now) (c .before .before .before .before .before .before .before .before .before .before .before .before .before .before .before .before .before .before .before .before .before .before .before .before .before .before .before .before .shared-slice-known .given)) (bytes-known (x .b .now) (c .before .before .before .before .before .before .before .before .before .before .before .before .before .before .before .before .before .before .before .before .before .before .before .before .before .before .before .shared-slice-known2 .given)) (x .list .now) (x .la .now) (x .lb .now) (x .ld .now) (x .lm .now) (x .n) _ _ _ _ _ j _ (c .before .before .before .before .before .before .before .before .common-rows .ensures .0) _ _ (c .before .before .write-links .ensures) (tail-back (linkSize * (c .before .before .before .before .before .before .before .before .common-rows .result)) (x .list .now) _ (omega (arith, k, j .most, c .before .before .before .before .before .before .before .before .before .before .before .before .before .before .before .before .before .before .before .before .before .before .before .before .before .before .before .before .before .pre .1)))
 
 pub rewrite-spec : {M : Type 1} → statement M

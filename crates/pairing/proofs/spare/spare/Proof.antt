@@ -2,6 +2,7 @@
 use mathlib.Core.Path.{refl, sym, _∙_}
 use native.Mathlib.Omega.{arith}
 use Rattle.contract.specs.Definitions.Requests.{spare}
+use Rattle.pairing.specs.Verdicts.{Finished}
 use Rattle.pairing.specs.Laws.Verdicts.{list-links, cut-a, cut-b, cut-amounts}
 use Rattle.pairing.specs.Laws.Calls.{list-call}
 use Rattle.pairing.specs.Laws.Spare.{spare-call}
@@ -30,61 +31,44 @@ enum-known-answer c = search needs
 cast-n : tie.Need-cast-n
 cast-n c = search needs
 
-array-share-prefix-la : tie.Need-array-share-prefix-la
-array-share-prefix-la c =
+-- The list is finished, and the columns have its links.
+found : (c : tie.After-known-told) →
     let x = c .before .before .before .before .before .before .before .before .before .before .before .before .before .before .before .args in
     let l = c .before .before .before .before .before .before .before .list .last .1 .1 .1 in
-    let f = list-links (x .a .now) (x .b .now) (x .list .now) (l .0) (l .1 .0) (l .1 .1 .0) (l .1 .1 .1 .0) (c .before .before .before .before .before .before .before .list .result) (c .before .before .before .before .before .before .before .list .ensures) _ (c .before .answer .given .1) in
-    omega (arith, f .joined .most)
+    Finished (x .a .now) (x .b .now) (x .list .now) (l .0) (l .1 .0) (l .1 .1 .0) (l .1 .1 .1 .0) (c .before .answer .given .0 .0)
+found c =
+    let x = c .before .before .before .before .before .before .before .before .before .before .before .before .before .before .before .args in
+    let l = c .before .before .before .before .before .before .before .list .last .1 .1 .1 in
+    list-links (x .a .now) (x .b .now) (x .list .now) (l .0) (l .1 .0) (l .1 .1 .0) (l .1 .1 .1 .0) (c .before .before .before .before .before .before .before .list .result) (c .before .before .before .before .before .before .before .list .ensures) _ (c .before .answer .given .1)
+
+array-share-prefix-la : tie.Need-array-share-prefix-la
+array-share-prefix-la c = omega (arith, found c .joined .most)
 
 slice-aggregate-of-master : tie.Need-slice-aggregate-of-master
-slice-aggregate-of-master c =
-    let x = c .before .before .before .before .before .before .before .before .before .before .before .before .before .before .before .before .args in
-    let l = c .before .before .before .before .before .before .before .before .list .last .1 .1 .1 in
-    let f = list-links (x .a .now) (x .b .now) (x .list .now) (l .0) (l .1 .0) (l .1 .1 .0) (l .1 .1 .1 .0) (c .before .before .before .before .before .before .before .before .list .result) (c .before .before .before .before .before .before .before .before .list .ensures) _ (c .before .before .answer .given .1) in
-    sym (cut-a f)
+slice-aggregate-of-master c = sym (cut-a (found (c .before)))
 
 array-share-prefix-lb : tie.Need-array-share-prefix-lb
-array-share-prefix-lb c =
-    let x = c .before .before .before .before .before .before .before .before .before .before .before .before .before .before .before .before .args in
-    let l = c .before .before .before .before .before .before .before .before .list .last .1 .1 .1 in
-    let f = list-links (x .a .now) (x .b .now) (x .list .now) (l .0) (l .1 .0) (l .1 .1 .0) (l .1 .1 .1 .0) (c .before .before .before .before .before .before .before .before .list .result) (c .before .before .before .before .before .before .before .before .list .ensures) _ (c .before .before .answer .given .1) in
-    omega (arith, f .joined .most)
+array-share-prefix-lb c = omega (arith, found (c .before) .joined .most)
 
 slice-aggregate-of-master-2 : tie.Need-slice-aggregate-of-master-2
-slice-aggregate-of-master-2 c =
-    let x = c .before .before .before .before .before .before .before .before .before .before .before .before .before .before .before .before .before .args in
-    let l = c .before .before .before .before .before .before .before .before .before .list .last .1 .1 .1 in
-    let f = list-links (x .a .now) (x .b .now) (x .list .now) (l .0) (l .1 .0) (l .1 .1 .0) (l .1 .1 .1 .0) (c .before .before .before .before .before .before .before .before .before .list .result) (c .before .before .before .before .before .before .before .before .before .list .ensures) _ (c .before .before .before .answer .given .1) in
-    sym (cut-b f)
+slice-aggregate-of-master-2 c = sym (cut-b (found (c .before .before)))
 
 array-share-prefix-lm : tie.Need-array-share-prefix-lm
-array-share-prefix-lm c =
-    let x = c .before .before .before .before .before .before .before .before .before .before .before .before .before .before .before .before .before .args in
-    let l = c .before .before .before .before .before .before .before .before .before .list .last .1 .1 .1 in
-    let f = list-links (x .a .now) (x .b .now) (x .list .now) (l .0) (l .1 .0) (l .1 .1 .0) (l .1 .1 .1 .0) (c .before .before .before .before .before .before .before .before .before .list .result) (c .before .before .before .before .before .before .before .before .before .list .ensures) _ (c .before .before .before .answer .given .1) in
-    omega (arith, f .joined .most)
+array-share-prefix-lm c = omega (arith, found (c .before .before) .joined .most)
 
 slice-aggregate-of-master-3 : tie.Need-slice-aggregate-of-master-3
-slice-aggregate-of-master-3 c =
-    let x = c .before .before .before .before .before .before .before .before .before .before .before .before .before .before .before .before .before .before .args in
-    let l = c .before .before .before .before .before .before .before .before .before .before .list .last .1 .1 .1 in
-    let f = list-links (x .a .now) (x .b .now) (x .list .now) (l .0) (l .1 .0) (l .1 .1 .0) (l .1 .1 .1 .0) (c .before .before .before .before .before .before .before .before .before .before .list .result) (c .before .before .before .before .before .before .before .before .before .before .list .ensures) _ (c .before .before .before .before .answer .given .1) in
-    sym (cut-amounts f)
+slice-aggregate-of-master-3 c = sym (cut-amounts (found (c .before .before .before)))
 
 of-master-requires : tie.Need-of-master-requires
 of-master-requires c κs =
-    let x = c .before .before .before .before .before .before .before .before .before .before .before .before .before .before .before .before .before .before .args in
-    let l = c .before .before .before .before .before .before .before .before .before .before .list .last .1 .1 .1 in
-    let f = list-links (x .a .now) (x .b .now) (x .list .now) (l .0) (l .1 .0) (l .1 .1 .0) (l .1 .1 .1 .0) (c .before .before .before .before .before .before .before .before .before .before .list .result) (c .before .before .before .before .before .before .before .before .before .before .list .ensures) _ (c .before .before .before .before .answer .given .1) in
+    let f = found (c .before .before .before) in
     ((f .sound .size-a, f .sound .size-b), (cut-a f ∙ sym (cut-amounts f), cut-b f ∙ sym (cut-amounts f)))
 
 returns : tie.Need-returns
 returns c =
     let x = c .before .before .before .before .before .before .before .before .before .before .before .before .before .before .before .before .before .before .before .args in
     let l = c .before .before .before .before .before .before .before .before .before .before .before .list .last .1 .1 .1 in
-    let f = list-links (x .a .now) (x .b .now) (x .list .now) (l .0) (l .1 .0) (l .1 .1 .0) (l .1 .1 .1 .0) (c .before .before .before .before .before .before .before .before .before .before .before .list .result) (c .before .before .before .before .before .before .before .before .before .before .before .list .ensures) _ (c .before .before .before .before .before .answer .given .1) in
-    spare-call (x .a .now) (x .b .now) (x .list .now) (l .0) (l .1 .0) (l .1 .1 .0) (l .1 .1 .1 .0) _ f (x .master) (x .number) _ (c .of-master .ensures)
+    spare-call (x .a .now) (x .b .now) (x .list .now) (l .0) (l .1 .0) (l .1 .1 .0) (l .1 .1 .1 .0) _ (found (c .before .before .before .before)) (x .master) (x .number) _ (c .of-master .ensures)
 
 returns-2 : tie.Need-returns-2
 returns-2 c =

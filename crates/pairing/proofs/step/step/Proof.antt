@@ -48,31 +48,19 @@ mul-put-row-3 : tie.Need-mul-put-row-3
 mul-put-row-3 c = search needs
 
 array-read-put-row-2 : tie.Need-array-read-put-row-2
-array-read-put-row-2 c =
-    let x = c .before .before .before .before .before .before .before .before .before .before .before .before .before .before .before .before .before .args in
-    let l = c .before .before .before .before .before .before .before .before .list .last .1 .1 .1 in
-    let f = list-early (x .a .now) (x .b .now) (x .list .now) (l .0) (l .1 .0) (l .1 .1 .0) (l .1 .1 .1 .0) (c .before .before .before .before .before .before .before .before .list .result) (c .before .before .before .before .before .before .before .before .list .ensures) _ (c .before .before .answer .given .1) in
-    omega (arith, due _ _ _ _ _ _ _ _ f, f .joined .most)
+array-read-put-row-2 c = array-read-put-row c
 
 mul-put-row-4 : tie.Need-mul-put-row-4
 mul-put-row-4 c = search needs
 
 array-read-put-row-3 : tie.Need-array-read-put-row-3
-array-read-put-row-3 c =
-    let x = c .before .before .before .before .before .before .before .before .before .before .before .before .before .before .before .before .before .args in
-    let l = c .before .before .before .before .before .before .before .before .list .last .1 .1 .1 in
-    let f = list-early (x .a .now) (x .b .now) (x .list .now) (l .0) (l .1 .0) (l .1 .1 .0) (l .1 .1 .1 .0) (c .before .before .before .before .before .before .before .before .list .result) (c .before .before .before .before .before .before .before .before .list .ensures) _ (c .before .before .answer .given .1) in
-    omega (arith, due _ _ _ _ _ _ _ _ f, f .joined .most)
+array-read-put-row-3 c = array-read-put-row c
 
 mul-put-row-5 : tie.Need-mul-put-row-5
 mul-put-row-5 c = search needs
 
 array-read-put-row-4 : tie.Need-array-read-put-row-4
-array-read-put-row-4 c =
-    let x = c .before .before .before .before .before .before .before .before .before .before .before .before .before .before .before .before .before .args in
-    let l = c .before .before .before .before .before .before .before .before .list .last .1 .1 .1 in
-    let f = list-early (x .a .now) (x .b .now) (x .list .now) (l .0) (l .1 .0) (l .1 .1 .0) (l .1 .1 .1 .0) (c .before .before .before .before .before .before .before .before .list .result) (c .before .before .before .before .before .before .before .before .list .ensures) _ (c .before .before .answer .given .1) in
-    omega (arith, due _ _ _ _ _ _ _ _ f, f .joined .most)
+array-read-put-row-4 c = array-read-put-row c
 
 put-row-requires : tie.Need-put-row-requires
 put-row-requires c κs =
