@@ -10,7 +10,7 @@ use lib.ListN.{length, getD, take, drop}
 use Rattle.matching.specs.Definitions.Links.{Link}
 use Rattle.matching.specs.Definitions.Columns.{linkAt, linksOf}
 use Rattle.matching.specs.Laws.Columns.{tabulate-get}
-use Rattle.tables.specs.Definitions.Sizes.{linkSize, tableSize, listSize, linkRows}
+use Rattle.tables.specs.Definitions.Sizes.{linkSize, tableSize, listSize}
 use Rattle.tables.specs.Definitions.Fields.{Bytes}
 use Rattle.tables.specs.Definitions.Rows.{put}
 use Rattle.tables.specs.Definitions.Tables.{nodesIn}
@@ -23,7 +23,7 @@ use Rattle.contract.specs.declared.Answer.{Answer}
 use Rattle.contract.specs.declared.Answer.the-variants.{Done, WrongLength}
 use Rattle.contract.specs.Definitions.Answers.{codeOf}
 use Rattle.contract.specs.Definitions.Requests.{Request, pair, step, bands, others, lengthsOf}
-use Rattle.contract.specs.Definitions.Refusals.{needsFinished, ownLength, lengthsRight, damagedRow, kindBad, masterBad, fieldBad, numberBad, tableFull, firstThat, refusal, refusedOr}
+use Rattle.contract.specs.Definitions.Refusals.{needsFinished, ownLength, lengthsRight, damagedRow, kindBad, masterBad, fieldBad, numberBad, tableFull, firstThat, refusedOr}
 use Rattle.contract.specs.Definitions.Calls.{Outcome, outcome, unchanged, done, call, pairCall, stepCall, bandsCall}
 use Rattle.contract.specs.Definitions.Calls.{linksOf as linksFor}
 use Rattle.contract.specs.Laws.Conditions.{stated-right}

@@ -1,47 +1,33 @@
 -- Edit, place by place, and then its effect.
-use Prim.Native.Nat.{ℕ, _*_, _<_, _≤_}
-use mathlib.Core.Path.{_≡_, refl, sym, _∙_, ap, ap₂, subst}
+use Prim.Native.Nat.{ℕ, _<_, _≤_}
+use mathlib.Core.Path.{_≡_, refl, sym, _∙_, ap}
 use mathlib.Core.Bool.{Bool, true, false, cond, not, _&&_, _||_}
 use mathlib.Core.Option.{Option, none, some}
-use mathlib.Core.List.{List, [], _∷_, _++_}
+use mathlib.Core.List.{List, [], _∷_}
 use mathlib.Core.Logic.{inl, inr}
 use native.Mathlib.Decide.{ℕ-discrete}
 use native.Mathlib.Omega.{arith}
-use lib.Dec.{eqb, leb, ltb}
-use lib.ListN.{length, take, drop}
-use borrow.Author.Tests.{eq-eqb, ne-eqb, eqb-true, lt-leb, lt-ltb, le-ltb}
+use lib.Dec.{eqb, leb}
+use lib.ListN.{length}
+use borrow.Author.Tests.{eq-eqb, ne-eqb, lt-leb, lt-ltb, le-ltb}
 use types.Run.{OneOf}
 use denote.Enum.Declared.{tagOf}
 use Rattle.tables.proofs.edits.Change.{the-type as change-type}
 use Rattle.tables.specs.declared.edits.Change.{Change}
 use Rattle.tables.specs.declared.edits.Change.the-variants.{Arrival, Departure, Move, Capacity, Unknown}
-use Rattle.matching.specs.Definitions.Nodes.{Master, masterA, masterB, Node, each, has, place}
-use Rattle.matching.specs.Definitions.Links.{Link, common}
-use Rattle.matching.specs.Definitions.Columns.{linksOf}
-use Rattle.tables.specs.Definitions.Sizes.{nodeRows, linkSize, listSize, editSize, tableSize}
-use Rattle.tables.specs.Definitions.Fields.{Bytes}
-use Rattle.tables.specs.Definitions.Tables.{nodesIn, Accepted}
-use Rattle.tables.specs.Definitions.Lists.{finished}
-use Rattle.tables.specs.Definitions.Edits.{kindOf, masterOf, numberOf, editFields, editTable}
-use Rattle.tables.specs.Laws.Changes.{changeOf, known, arrives, Applies, arrives-kind, known-kind}
-use Rattle.tables.specs.Laws.Edits.{Passes}
+use Rattle.matching.specs.Definitions.Nodes.{Master, masterA, masterB, Node, each, has}
+use Rattle.tables.specs.Definitions.Sizes.{nodeRows}
+use Rattle.tables.specs.Definitions.Tables.{nodesIn}
+use Rattle.tables.specs.Definitions.Edits.{kindOf, masterOf, numberOf, editFields}
+use Rattle.tables.specs.Laws.Changes.{changeOf, known, arrives, arrives-kind, known-kind}
 use Rattle.tables.specs.Laws.Find.{RowOf}
 use Rattle.contract.specs.declared.Answer.{Answer}
 use Rattle.contract.specs.declared.Answer.the-variants.{Done, WrongLength, FaultyA, FaultyB, DamagedList, UnfinishedList, BadKind, BadMaster, BadField, BadNumber, TableFull}
-use Rattle.contract.specs.Definitions.Requests.{edit, lengthsOf, masterNamed}
-use Rattle.contract.specs.Definitions.Refusals.{ownLength, kindBad, masterBad, fieldBad, numberBad, tableFull, firstThat, refusal}
-use Rattle.contract.specs.Definitions.Calls.{outcome, done, editCall}
-use Rattle.contract.specs.Definitions.Calls.{linksOf as linksFor}
-use Rattle.contract.specs.Laws.Conditions.{stated-right}
-use Rattle.contract.specs.Laws.Refusals.{no-refusal, edit-passes}
-use Rattle.contract.specs.Laws.Places.{editPlaces, by-edit}
-use Rattle.contract.specs.Laws.Programs.{edit-list, edited-accepted, finished-length}
-use Rattle.contract.specs.Laws.Leading.{equal-lists}
-use Rattle.pairing.specs.Verdicts.{Sound, Finished}
-use Rattle.pairing.specs.Edit.{placeAnswer, nodeAnswer, editAnswer, Changed, Rewritten}
+use Rattle.contract.specs.Definitions.Requests.{edit}
+use Rattle.contract.specs.Definitions.Refusals.{kindBad, masterBad, fieldBad, numberBad, tableFull, firstThat}
+use Rattle.contract.specs.Laws.Places.{editPlaces}
+use Rattle.pairing.specs.Edit.{placeAnswer, nodeAnswer, editAnswer}
 use Rattle.pairing.specs.Laws.Answers.{Among, refusals, done-is-none}
-use Rattle.pairing.specs.Laws.Verdicts.{accepted-a, accepted-b}
-use Rattle.pairing.specs.Laws.Calls.{finished-call}
 
 -- The refusal that an answer is.
 abbrev refusalIn : Answer → Option Answer

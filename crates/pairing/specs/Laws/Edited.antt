@@ -1,37 +1,36 @@
 -- What an edit leaves.
 use Prim.Native.Nat.{ℕ, suc, _*_, _<_, _≤_}
-use mathlib.Core.Path.{_≡_, refl, sym, _∙_, ap, ap₂, subst}
-use mathlib.Core.Bool.{Bool, true, false, cond, not, _&&_}
+use mathlib.Core.Path.{_≡_, sym, _∙_, ap, ap₂}
+use mathlib.Core.Bool.{Bool, true, false, cond}
 use mathlib.Core.Option.{none, some}
 use mathlib.Core.List.{List, [], _∷_, _++_}
 use native.Mathlib.Omega.{arith}
-use lib.Dec.{eqb, leb, ltb}
 use lib.ListN.{length, take, drop}
 use borrow.Author.Tests.{eq-eqb, ne-eqb, eqb-false, le-leb, ltb-true, not-false}
 use Rattle.tables.specs.declared.edits.Change.{Change}
 use Rattle.tables.specs.declared.edits.Change.the-variants.{Arrival}
-use Rattle.matching.specs.Definitions.Nodes.{Master, masterA, masterB, Node, each, has, place}
+use Rattle.matching.specs.Definitions.Nodes.{each, has}
 use Rattle.matching.specs.Definitions.Links.{Link, sameLink, common}
 use Rattle.matching.specs.Definitions.Columns.{linkAt, linksOf}
 use Rattle.matching.specs.Laws.Columns.{tabulate-length}
-use Rattle.tables.specs.Definitions.Sizes.{nodeRows, linkSize, listSize, editSize, tableSize}
+use Rattle.tables.specs.Definitions.Sizes.{nodeRows, linkSize, editSize, tableSize}
 use Rattle.tables.specs.Definitions.Fields.{Bytes}
 use Rattle.tables.specs.Definitions.Tables.{nodesIn, Accepted}
 use Rattle.tables.specs.Definitions.Lists.{listBytes, finished}
 use Rattle.tables.specs.Definitions.Edits.{kindOf, masterOf, numberOf, editTable}
-use Rattle.tables.specs.Laws.Changes.{changeOf, known, arrives, Applies, arrives-kind, known-kind}
+use Rattle.tables.specs.Laws.Changes.{changeOf, known, Applies, known-kind}
 use Rattle.tables.specs.Laws.Edits.{Passes}
 use Rattle.tables.specs.Laws.Find.{RowOf}
 use Rattle.join.specs.Contract.{Joined}
 use Rattle.contract.specs.declared.Answer.{Answer}
 use Rattle.contract.specs.declared.Answer.the-variants.{Done}
 use Rattle.contract.specs.Definitions.Requests.{edit, lengthsOf, masterNamed}
-use Rattle.contract.specs.Definitions.Refusals.{lengthsRight, firstThat, refusal}
+use Rattle.contract.specs.Definitions.Refusals.{lengthsRight, refusal}
 use Rattle.contract.specs.Definitions.Calls.{outcome, done, editCall}
 use Rattle.contract.specs.Definitions.Calls.{linksOf as linksFor}
 use Rattle.contract.specs.Laws.Conditions.{stated-right}
 use Rattle.contract.specs.Laws.Refusals.{no-refusal, edit-passes, call-done}
-use Rattle.contract.specs.Laws.Places.{editPlaces, by-edit}
+use Rattle.contract.specs.Laws.Places.{by-edit}
 use Rattle.contract.specs.Laws.Programs.{edit-list, edited-accepted, finished-length}
 use Rattle.contract.specs.Laws.Leading.{equal-lists}
 use Rattle.pairing.specs.Verdicts.{Sound, Finished}

@@ -1,12 +1,12 @@
 -- Spare, from its node's answer to the call's outcome.
-use Prim.Native.Nat.{ℕ, _-_, _<_, _≤_}
+use Prim.Native.Nat.{ℕ, _-_, _≤_}
 use mathlib.Core.Path.{_≡_, refl, sym, _∙_, ap}
-use mathlib.Core.Bool.{Bool, true, false, cond, not}
+use mathlib.Core.Bool.{Bool, true, false, cond}
 use mathlib.Core.Option.{none, some}
 use mathlib.Core.List.{List, []}
 use native.Mathlib.Decide.{ℕ-discrete}
 use native.Mathlib.Omega.{arith}
-use lib.Dec.{eqb, leb, ltb}
+use lib.Dec.{eqb, leb}
 use lib.ListN.{length, take}
 use borrow.Author.Tests.{eq-eqb, ne-eqb, lt-leb, lt-ltb, le-ltb}
 use Rattle.matching.specs.Definitions.Nodes.{Master, masterA, masterB, each, has, capacityOf}
@@ -21,7 +21,6 @@ use Rattle.contract.specs.declared.Answer.the-variants.{Done, BadMaster, BadFie
 use Rattle.contract.specs.Definitions.Requests.{spare}
 use Rattle.contract.specs.Definitions.Refusals.{kindBad, masterBad, fieldBad, numberBad, tableFull, firstThat}
 use Rattle.contract.specs.Definitions.Calls.{outcome, done, spareCall}
-use Rattle.contract.specs.Laws.Places.{editPlaces}
 use Rattle.pairing.specs.Verdicts.{Finished}
 use Rattle.pairing.specs.Spare.{nodeSpare}
 use Rattle.pairing.specs.Laws.Calls.{finished-call}

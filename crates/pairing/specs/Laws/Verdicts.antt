@@ -18,12 +18,12 @@ use Rattle.tables.specs.Definitions.Lists.{listBytes, finished, differs, firstD
 use Rattle.tables.specs.Laws.Rows.{some-from}
 use Rattle.tables.specs.Laws.Accepted.{nodes-good}
 use Rattle.tables.specs.Laws.ListCode.{Long}
-use Rattle.tables.specs.Laws.Compare.{Comparable, placeOf}
+use Rattle.tables.specs.Laws.Compare.{Comparable}
 use Rattle.join.specs.Contract.{Joined}
 use Rattle.contract.specs.declared.Answer.{Answer}
-use Rattle.contract.specs.declared.Answer.the-variants.{Done, WrongLength, FaultyA, FaultyB, DamagedList, UnfinishedList}
-use Rattle.contract.specs.Definitions.Requests.{Request, pair, step, edit, spare, bands, Lengths, lengthsOf}
-use Rattle.contract.specs.Definitions.Refusals.{readsList, needsFinished, ownLength, lengthsRight, refusal}
+use Rattle.contract.specs.declared.Answer.the-variants.{Done, WrongLength, FaultyA, FaultyB, UnfinishedList}
+use Rattle.contract.specs.Definitions.Requests.{Request, pair, lengthsOf}
+use Rattle.contract.specs.Definitions.Refusals.{ownLength, lengthsRight}
 use Rattle.contract.specs.Definitions.Calls.{linksOf as linksFor}
 use Rattle.contract.specs.Laws.Conditions.{stated, stated-right}
 use Rattle.contract.specs.Laws.Lists.{join-good}

@@ -1,13 +1,12 @@
 -- The nodes of a table where they lie: their count, and the row of one by its number.
 use Prim.Native.Nat.{ℕ, suc, _+_, _*_, _-_, _<_, _≤_}
 use mathlib.Core.Path.{_≡_, refl, sym, _∙_, ap}
-use mathlib.Core.Bool.{true, false}
-use mathlib.Core.List.{List, [], _∷_}
+use mathlib.Core.List.{List, []}
 use native.Mathlib.Nat.{zero-add}
 use native.Mathlib.Omega.{arith}
-use lib.Dec.{eqb, ltb}
+use lib.Dec.{ltb}
 use lib.ListN.{length}
-use borrow.Author.Tests.{eq-eqb, ne-eqb, lt-ltb, le-ltb}
+use borrow.Author.Tests.{eq-eqb, ne-eqb, lt-ltb}
 use Rattle.matching.specs.Definitions.Nodes.{Node, has, place, capacityOf}
 use Rattle.tables.specs.Definitions.Sizes.{capacitySize, nodeCapacity, nodeSize, nodeRows}
 use Rattle.tables.specs.Definitions.Fields.{natAt}

@@ -1,5 +1,4 @@
 -- `pairing::edit::decide` meets its contract: refused by the edit's places, or performed. Assumes nothing.
-use Rattle.tables.specs.Laws.ListRead.{bytes-known}
 use Rattle.pairing.specs.Laws.Edited.{edit-refused, unrefused}
 use borrow.Author.Needs.{needs}
 use Rattle.pairing.proofs.edit.decide.Statement.{statement}

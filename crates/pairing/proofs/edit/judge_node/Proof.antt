@@ -1,8 +1,6 @@
 -- `pairing::edit::judge_node` meets its contract: the number and the fields, and then its place. Assumes nothing.
-use mathlib.Core.Path.{_≡_, sym, _∙_}
-use mathlib.Core.Bool.{true, false, _&&_}
+use mathlib.Core.Path.{sym, _∙_}
 use borrow.Author.Tests.{not-true, not-false}
-use Rattle.tables.specs.Definitions.Edits.{editFields}
 use Rattle.pairing.specs.Laws.Edit.{node-zero, node-fields, node-place}
 use borrow.Author.Needs.{needs}
 use Rattle.pairing.proofs.edit.judge_node.Statement.{statement}

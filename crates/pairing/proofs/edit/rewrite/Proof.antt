@@ -1,6 +1,5 @@
 -- `pairing::edit::rewrite` meets its contract: the rows in common stay, the part from there on comes back written. Assumes nothing.
 use Prim.Native.Nat.{_*_, _≤_}
-use mathlib.Core.Path.{_∙_}
 use native.Mathlib.Omega.{arith}
 use Rattle.tables.specs.Definitions.Sizes.{linkSize}
 use Rattle.tables.specs.Laws.ListRead.{bytes-known}

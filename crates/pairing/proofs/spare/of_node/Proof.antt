@@ -1,6 +1,6 @@
 -- `pairing::spare::of_node` meets its contract: number 0, a number not there, or what is left. Assumes nothing.
 use native.Mathlib.Omega.{arith}
-use mathlib.Core.Path.{sym, _∙_, ap}
+use mathlib.Core.Path.{_∙_, ap}
 use Prim.Native.Nat.{ℕ, _+_, _*_, _-_}
 use Rattle.tables.specs.Definitions.Sizes.{capacitySize, nodeCapacity, nodeSize}
 use Rattle.tables.specs.Laws.Fields.{nat-high}

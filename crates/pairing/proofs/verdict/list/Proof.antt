@@ -1,6 +1,5 @@
 use Rattle.pairing.specs.Laws.Verdicts.{tables-sound, list-refused}
 -- `pairing::verdict::list` meets its contract: the tables, and then the list. Assumes nothing.
-use Rattle.pairing.specs.Laws.Answers.{done-claim}
 use Rattle.pairing.specs.Laws.Verdicts.{list-refused}
 use borrow.Author.Needs.{needs}
 use Rattle.pairing.proofs.verdict.list.Statement.{statement}
