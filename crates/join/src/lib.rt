@@ -1,9 +1,9 @@
 // The join of two masters, by a chain of nearest neighbours.
 mod chain;
-mod nearest;
+pub mod nearest;
 mod order;
 mod rows;
-mod sizes;
+pub mod sizes;
 
 ghost use Rattle.matching.specs.Definitions.Columns.{nodesOf};
 ghost use Rattle.join.specs.Contract.{Fit, Room, Joined};

@@ -14,7 +14,7 @@ pub struct Near {
 }
 
 // The squared distance of row t and place k.
-fn apart(t: usize, k: usize, xs: &[i16], ys: &[i16], kx: &[i16], ky: &[i16]) -> u32
+pub fn apart(t: usize, k: usize, xs: &[i16], ys: &[i16], kx: &[i16], ky: &[i16]) -> u32
     requires { ⌜ Placed (now xs) (now ys) t × Placed (now kx) (now ky) k ⌝ }
     ensures { λ r. ⌜ r ≡ across (now (xs .entry)) (now (ys .entry)) (now (kx .entry)) (now (ky .entry)) t k ⌝ }
 {
@@ -22,7 +22,7 @@ fn apart(t: usize, k: usize, xs: &[i16], ys: &[i16], kx: &[i16], ky: &[i16]) -> 
 }
 
 // A distance above a number.
-fn pack(d: u32, n: u32) -> u64
+pub fn pack(d: u32, n: u32) -> u64
     ensures { λ r. ⌜ Packed d n r ⌝ }
 {
     (d as u64) * sizes::RANGE + (n as u64)

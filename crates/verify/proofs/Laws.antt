@@ -1,0 +1,4 @@
+-- Laws that the functions' proofs cite.
+pub mod Limits
+pub mod Links
+pub mod Whole

@@ -1,0 +1,168 @@
+-- What the parts of the check establish makes the links the join. Assumes nothing.
+use Prim.Native.Nat.{ℕ, suc, _+_, _*_, _≤_, _<_}
+use mathlib.Core.Path.{_≡_, refl, sym, _∙_, ap}
+use mathlib.Core.Bool.{Bool, true, false, cond}
+use mathlib.Core.List.{List, List·Memᴰ}
+use native.Mathlib.Omega.{arith}
+use native.Mathlib.Decide.{decLe}
+use lib.IntN.{ℤ, pos}
+use lib.ListN.{length, getD}
+use lib.Dec.{ltb}
+use borrow.Author.Tests.{lt-ltb}
+use Rattle.matching.specs.Definitions.Lists.{All}
+use Rattle.matching.specs.Definitions.Nodes.{Master, masterA, masterB, each, Node, Unique}
+use Rattle.matching.specs.Definitions.Pairs.{Pair, numberIn, distance, pair, Before, nearer, lowerA, lowerB}
+use Rattle.matching.specs.Definitions.Links.{Link, pairOf, used}
+use Rattle.matching.specs.Definitions.Join.{join}
+use Rattle.matching.specs.Definitions.Columns.{nodeAt, nodesOf, linkAt, linksOf}
+use Rattle.matching.specs.Laws.Distance.{inside-reach, distance-fits}
+use Rattle.matching.specs.Laws.Amounts.{other, Named}
+use Rattle.matching.specs.Laws.Columns.{nodes-length, nodes-get, nodes-all, same-place}
+use Rattle.matching.specs.Theorems.Checked as checked
+use Rattle.join.specs.Sizes.{masterRows, numberRange}
+use Rattle.join.specs.Contract.{Fit}
+use Rattle.join.specs.Rows.{Placed}
+use Rattle.join.specs.Nearest.{across}
+use Rattle.verify.specs.Sizes.{free}
+use Rattle.verify.specs.Rows.{Level, pairAt, Located, Apart}
+use Rattle.verify.specs.Limits.{Distinct, Limit, unlimited, limited, Sided}
+use Rattle.verify.specs.Open.{late, Ruled, Shut}
+use Rattle.verify.proofs.Laws.Links.{node-in, increasing-tabulate, links-all, used-taken}
+
+pub late-one : (n high : ℕ) → late n high ≤ 1
+late-one n high = go (ltb n high)
+  where
+    go : (t : Bool) → cond t 0 1 ≤ 1
+    go true = omega arith
+    go false = omega arith
+
+-- A pair that is not ahead of a limit is not before a row up to it that shares its node.
+module _ (p q : Pair) (far high : ℕ) (small : high < numberRange) where
+  late-none : (n : ℕ) → n < high → late n high ≡ 0
+  late-none n h = rw (lt-ltb n high h)
+
+  tied : (n : ℕ) → p .distance ≡ q .distance → n < high → q .distance ≤ far → ¬ (p .distance + late n high ≤ far) → ⊥
+  tied n e l h k = k (omega (arith, late-none n l))
+
+  past : (s : Master) → numberIn s p ≡ numberIn s q → q .distance * numberRange + numberIn (other s) q ≤ far * numberRange + high
+      → ¬ (p .distance + late (numberIn (other s) p) high ≤ far) → ¬ Before p q
+  past s e k h (nearer d) = h (omega (arith, late-one (numberIn (other s) p) high))
+  past masterA e k h (lowerA d l) = omega arith
+  past masterB e k h (lowerB d f l) = omega arith
+  past masterA e k h (lowerB d f l) = go (decLe (suc (q .distance)) far)
+    where
+      go : Dec (suc (q .distance) ≤ far) → ⊥
+      go (yes y) = h (omega (arith, late-one (p .b) high))
+      go (no n) = tied (p .b) d (omega arith) (omega arith) h
+  past masterB e k h (lowerA d l) = go (decLe (suc (q .distance)) far)
+    where
+      go : Dec (suc (q .distance) ≤ far) → ⊥
+      go (yes y) = h (omega (arith, late-one (p .a) high))
+      go (no n) = tied (p .a) d (omega arith) (omega arith) h
+
+-- A squared distance leaves room for a tie.
+pub across-fits : (ax ay bx by : List ℤ) (i j : ℕ) → Placed ax ay i → Placed bx by j → across ax ay bx by i j < free
+unfolding across
+across-fits ax ay bx by i j p q = distance-fits (getD ax i (pos 0)) (getD ay i (pos 0)) (getD bx j (pos 0)) (getD by j (pos 0))
+    (inside-reach (getD ax i (pos 0)) (getD ay i (pos 0)) (getD bx j (pos 0)) (getD by j (pos 0)) (p .inside) (q .inside))
+
+-- What is asked of a master's columns, for the parts.
+module _ (ns : List ℕ) (xs ys : List ℤ) (cs : List ℕ) (f : Fit ns xs ys cs) where
+  pub fit-distinct : Distinct ns
+  fit-distinct i j h g e =
+      same-place (nodesOf ns xs ys cs) i j (nodeAt ns xs ys cs i) (f .unique) (omega (arith, nodes-length ns xs ys cs)) (omega (arith, nodes-length ns xs ys cs))
+      (ap (λ (v : Node). v .number) (nodes-get ns xs ys cs i (nodeAt ns xs ys cs i) h) ∙ e ∙ sym (ap (λ (v : Node). v .number) (nodes-get ns xs ys cs j (nodeAt ns xs ys cs i) g)))
+
+  pub fit-placed : (i : ℕ) → i < length ns → Placed xs ys i
+  fit-placed i h = record { in-x = omega (arith, f .columns .len-x); in-y = omega (arith, f .columns .len-y); inside = f .columns .inside i h }
+
+  pub fit-ruled : (far high : List ℕ) → length far ≡ masterRows → length high ≡ masterRows → (i : ℕ) → i < length ns → Ruled ns xs ys far high i
+  fit-ruled far high e g i h = record { in-n = h; placed = fit-placed i h; in-f = omega (arith, f .most); in-h = omega (arith, f .most) }
+
+module _ (an : List ℕ) (ax ay : List ℤ) (ac bn : List ℕ) (bx by : List ℤ) (bc la lb ld lm ia ib af ah bf bh : List ℕ)
+    (fa : Fit an ax ay ac) (fb : Fit bn bx by bc) (level : Level la lb ld lm ia ib) where
+  abbrev A : List Node
+  A = nodesOf an ax ay ac
+
+  abbrev B : List Node
+  B = nodesOf bn bx by bc
+
+  abbrev n : ℕ
+  n = length la
+
+  abbrev K : List Link
+  K = linksOf la lb ld lm n
+
+  column : (s : Master) (k : ℕ) → numberIn s (pairOf (linkAt la lb ld lm k)) ≡ getD (each la lb s) k 0
+  column masterA k = refl
+  column masterB k = refl
+
+  long : (s : Master) → length (each la lb s) ≡ n
+  long masterA = refl
+  long masterB = level .of-b
+
+  -- A node's limit shuts the pairs that are not ahead of it.
+  shut-by : (s : Master) (v w : Node) (far high : ℕ) → distance v w < free
+      → Limit (each an bn s) (each la lb s) (each la lb (other s)) ld lm (numberIn s (pair v w)) (each (v .capacity) (w .capacity) s) far high
+      → ¬ (distance v w + late (numberIn (other s) (pair v w)) high ≤ far) → checked.Shut A B (fa .unique) (fb .unique) K v w
+  unfolding pair
+  shut-by s v w far high d (unlimited e) h = absurd (h (omega (arith, late-one (numberIn (other s) (pair v w)) high)))
+  shut-by s v w far high d (limited u m b) h = record {
+    side = s;
+    spent = used-taken la lb ld lm s n (numberIn s (pair v w)) ∙ (rw (long s) at u);
+    last = links-all la lb ld lm (λ l. numberIn s (pairOf l) ≡ numberIn s (pair v w) → ¬ Before (pair v w) (pairOf l)) n (λ k g e.
+        past (pair v w) (pairOf (linkAt la lb ld lm k)) far high b s (sym e)
+        (omega (arith, m k (omega (arith, long s)) (sym (column s k) ∙ e), column (other s) k)) h);
+  }
+
+  module _ (order : (k : ℕ) → k + 1 < length ld → Before (pairAt la lb ld k) (pairAt la lb ld (k + 1))) (at-a : Located an la ia) (at-b : Located bn lb ib)
+      (apart : Apart ld ia ib ax ay bx by) (sa : Sided an la lb ld lm ac af ah) (sb : Sided bn lb la ld lm bc bf bh)
+      (shut : (i j : ℕ) → i < length an → j < length bn → Shut an ax ay af ah bn bx by bf bh i j) where
+    abbrev N : ℕ → Node
+    N = nodeAt an ax ay ac
+
+    abbrev M : ℕ → Node
+    M = nodeAt bn bx by bc
+
+    in-b : (k : ℕ) → k < n → k < length lb
+    in-b k h = omega (arith, level .of-b)
+
+    named : All (Named A B (fa .unique) (fb .unique)) K
+    unfolding pair distance across
+    named = links-all la lb ld lm (Named A B (fa .unique) (fb .unique)) n (λ k h. record {
+      v = N (getD ia k 0);
+      w = M (getD ib k 0);
+      in-a = node-in an ax ay ac (getD ia k 0) (at-a k h .0);
+      in-b = node-in bn bx by bc (getD ib k 0) (at-b k (in-b k h) .0);
+      is-pair = λ t. record {
+        distance = apart k (omega (arith, level .of-d)) t;
+        a = sym (at-a k h .1) t;
+        b = sym (at-b k (in-b k h) .1) t;
+      };
+    })
+
+    within : (s : Master) → All (λ v. used s K (v .number) ≤ v .capacity) (each A B s)
+    within masterA = nodes-all an ax ay ac (λ v. used masterA K (v .number) ≤ v .capacity) (λ i h. rw (used-taken la lb ld lm masterA n (getD an i 0)) (sa .within i h))
+    within masterB = nodes-all bn bx by bc (λ v. used masterB K (v .number) ≤ v .capacity) (λ j h. rw (used-taken la lb ld lm masterB n (getD bn j 0)) (rw (level .of-b) at (sb .within j h)))
+
+    shut-pair : (i j : ℕ) → i < length an → j < length bn → checked.Shut A B (fa .unique) (fb .unique) K (N i) (M j)
+    unfolding pair distance across
+    shut-pair i j h g = go (decLe (across ax ay bx by i j + late (getD bn j 0) (getD ah i 0)) (getD af i 0))
+      where
+        fits : across ax ay bx by i j < free
+        fits = across-fits ax ay bx by i j (fit-placed an ax ay ac fa i h) (fit-placed bn bx by bc fb j g)
+
+        go : Dec (across ax ay bx by i j + late (getD bn j 0) (getD ah i 0) ≤ getD af i 0) → checked.Shut A B (fa .unique) (fb .unique) K (N i) (M j)
+        go (no z) = shut-by masterA (N i) (M j) (getD af i 0) (getD ah i 0) fits (sa .limits i h) z
+        go (yes z) = shut-by masterB (N i) (M j) (getD bf j 0) (getD bh j 0) fits (sb .limits j g) (shut i j h g z)
+
+    pub whole : K ≡ join A B
+    unfolding linksOf
+    whole = checked.links-shut A B (fa .unique) (fb .unique) K (record {
+      named = named;
+      ordered = increasing-tabulate (linkAt la lb ld lm) 0 n (λ k l h. order k (omega (arith, level .of-d)));
+      positive = links-all la lb ld lm (λ l. 1 ≤ l .amount) n (sa .amounts);
+      within = within;
+    })
+        (nodes-all an ax ay ac (λ v. All (λ w. checked.Shut A B (fa .unique) (fb .unique) K v w) B) (λ i h.
+        nodes-all bn bx by bc (λ w. checked.Shut A B (fa .unique) (fb .unique) K (N i) w) (λ j g. shut-pair i j h g)))

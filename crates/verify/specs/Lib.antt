@@ -1,0 +1,5 @@
+-- What the contracts of this crate cite.
+pub mod Sizes
+pub mod Rows
+pub mod Limits
+pub mod Open

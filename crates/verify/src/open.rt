@@ -1,0 +1,100 @@
+// One pass over all pairs: is one of them ahead of the limits of both its nodes? Then it is missing among the links.
+ghost use Prim.Native.Nat.{ℕ, _+_, _≤_, _<_};
+ghost use mathlib.Core.Path.{_≡_};
+ghost use mathlib.Core.Bool.{false};
+ghost use lib.ListN.{length};
+ghost use Rattle.join.specs.Sizes.{masterRows};
+ghost use Rattle.verify.specs.Open.{late as lateOf, Ruled, Shut};
+
+// 0 where n is below o, else 1: added to a distance it settles ties, without a branch.
+fn late(n: u32, o: u32) -> u32
+    ensures { λ r. ⌜ (r ≡ lateOf n o) × (r ≤ 1) ⌝ }
+{
+    if n < o { 0 } else { 1 }
+}
+
+fn both(p: u32, s: u32, q: u32, t: u32) -> u32
+    ensures { λ r. ⌜ (r ≤ 1) × (r ≡ 0 → p ≤ s → q ≤ t → ⊥) ⌝ }
+{
+    if p <= s {
+        if q <= t { 1 } else { 0 }
+    } else {
+        0
+    }
+}
+
+// 1 where the pair of A's place i and B's place j is ahead of both limits.
+fn open_at(
+    i: usize,
+    j: usize,
+    an: &[u32],
+    ax: &[i16],
+    ay: &[i16],
+    af: &[u32],
+    ah: &[u32],
+    bn: &[u32],
+    bx: &[i16],
+    by: &[i16],
+    bf: &[u32],
+    bh: &[u32],
+) -> u32
+    requires { ⌜ Ruled (now an) (now ax) (now ay) (now af) (now ah) i × Ruled (now bn) (now bx) (now by) (now bf) (now bh) j ⌝ }
+    ensures { λ r. ⌜ (r ≤ 1) × (r ≡ 0 → Shut (now (an .entry)) (now (ax .entry)) (now (ay .entry)) (now (af .entry)) (now (ah .entry)) (now (bn .entry)) (now (bx .entry)) (now (by .entry)) (now (bf .entry)) (now (bh .entry)) i j) ⌝ }
+{
+    let d = join::nearest::apart(i, j, ax, ay, bx, by);
+    let p = d + late(bn[j], ah[i]);
+    let q = d + late(an[i], bh[j]);
+    both(p, af[i], q, bf[j])
+}
+
+// How many pairs of A's place i are.
+fn open_row(
+    i: usize,
+    an: &[u32],
+    ax: &[i16],
+    ay: &[i16],
+    af: &[u32],
+    ah: &[u32],
+    bn: &[u32],
+    bx: &[i16],
+    by: &[i16],
+    bf: &[u32],
+    bh: &[u32],
+) -> u32
+    requires { ⌜ Ruled (now an) (now ax) (now ay) (now af) (now ah) i × ((j : ℕ) → j < length (now bn) → Ruled (now bn) (now bx) (now by) (now bf) (now bh) j) × (length (now bn) ≤ masterRows) ⌝ }
+    ensures { λ r. ⌜ (r ≡ 0 → (j : ℕ) → j < length (now (bn .entry)) → Shut (now (an .entry)) (now (ax .entry)) (now (ay .entry)) (now (af .entry)) (now (ah .entry)) (now (bn .entry)) (now (bx .entry)) (now (by .entry)) (now (bf .entry)) (now (bh .entry)) i j) ⌝ }
+{
+    let mut count = 0;
+    let mut j = 0;
+    while j < bn.len() {
+        count += open_at(i, j, an, ax, ay, af, ah, bn, bx, by, bf, bh);
+        j += 1;
+    }
+    count
+}
+
+// Some pair is.
+pub fn any_open(
+    an: &[u32],
+    ax: &[i16],
+    ay: &[i16],
+    af: &[u32],
+    ah: &[u32],
+    bn: &[u32],
+    bx: &[i16],
+    by: &[i16],
+    bf: &[u32],
+    bh: &[u32],
+) -> bool
+    requires { ⌜ ((i : ℕ) → i < length (now an) → Ruled (now an) (now ax) (now ay) (now af) (now ah) i) × ((j : ℕ) → j < length (now bn) → Ruled (now bn) (now bx) (now by) (now bf) (now bh) j) × (length (now bn) ≤ masterRows) ⌝ }
+    ensures { λ r. ⌜ (r ≡ false → (i j : ℕ) → i < length (now (an .entry)) → j < length (now (bn .entry)) → Shut (now (an .entry)) (now (ax .entry)) (now (ay .entry)) (now (af .entry)) (now (ah .entry)) (now (bn .entry)) (now (bx .entry)) (now (by .entry)) (now (bf .entry)) (now (bh .entry)) i j) ⌝ }
+{
+    let mut i = 0;
+    while i < an.len() {
+        if open_row(i, an, ax, ay, af, ah, bn, bx, by, bf, bh) != 0 {
+            return true;
+        }
+        i += 1;
+    }
+    false
+}

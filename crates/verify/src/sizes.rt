@@ -1,0 +1,6 @@
+// The sizes that the check works with, as in specs/Sizes.antt. No other file of src/ has these numbers.
+// The most nodes of a master.
+pub const NODES: usize = 512;
+
+// The limit of a node that has something left: every distance is below it.
+pub const FREE: u32 = 4294967295;
