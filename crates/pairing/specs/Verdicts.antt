@@ -1,11 +1,11 @@
 -- What a verdict says, by its answer: done where nothing is refused so far, else what every call that comes so far is refused with.
-use Prim.Native.Nat.{ℕ}
+use Prim.Native.Nat.{ℕ, _≤_}
 use mathlib.Core.Path.{_≡_}
 use mathlib.Core.Bool.{Bool, true, cond}
 use mathlib.Core.Option.{none, some}
 use mathlib.Core.List.{List}
 use lib.ListN.{length}
-use Rattle.tables.specs.Definitions.Sizes.{tableSize, listSize}
+use Rattle.tables.specs.Definitions.Sizes.{tableSize, linkRows, listSize}
 use Rattle.tables.specs.Definitions.Tables.{nodesIn, firstFault}
 use Rattle.tables.specs.Definitions.Lists.{finished, firstDifference, zeroFrom}
 use Rattle.join.specs.Contract.{Joined}
@@ -21,6 +21,13 @@ pub record Sound (a b : List ℕ) : Type 0 where
   pub size-b : length b ≡ tableSize
   pub fault-a : firstFault a ≡ none
   pub fault-b : firstFault b ≡ none
+
+-- Link columns of one length, at most that of a list.
+pub record Even (la lb ld lm : List ℕ) : Type 0 where
+  pub most : length la ≤ linkRows
+  pub of-b : length lb ≡ length la
+  pub of-d : length ld ≡ length la
+  pub of-m : length lm ≡ length la
 
 -- A claim for done with its value, another for every refusal.
 abbrev pub byAnswer : (ℕ → Type 0) → (Answer → Type 0) → Answer → Type 0

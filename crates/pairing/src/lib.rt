@@ -4,6 +4,7 @@ ghost use mathlib.Core.List.{[], _∷_};
 ghost use Rattle.contract.specs.Definitions.Calls.{pairCall, stepCall, editCall, spareCall, bandsCall};
 
 mod bands;
+mod check;
 mod edit;
 mod links;
 mod pair;

@@ -9,11 +9,13 @@ ghost use Rattle.join.specs.Contract.{Room};
 ghost use Rattle.contract.specs.Definitions.Requests.{pair, lengthsOf};
 ghost use Rattle.contract.specs.Definitions.Refusals.{lengthsRight};
 ghost use Rattle.pairing.specs.Verdicts.{Sound, TablesJudged, ListJudged, leaves};
+use super::check::all;
 use super::links::links;
 use contract::Answer;
 use tables::compare::Difference;
 use tables::compare::first_difference;
 use tables::faults::Fault;
+use tables::lists::read_links;
 use tables::lists::zero_from;
 use tables::nodes::fault;
 use tables::sizes::LIST;
@@ -85,6 +87,29 @@ fn compare(
     }
 }
 
+// The same, without a join where a check shows that the list is finished.
+fn review(
+    a: &[u8],
+    b: &[u8],
+    list: &[u8],
+    la: &mut [u32],
+    lb: &mut [u32],
+    ld: &mut [u32],
+    lm: &mut [u32],
+) -> Answer
+    requires { ⌜ Sound (now a) (now b) × (length (now list) ≡ listSize) ⌝ }
+    requires { ⌜ Room (now la) (now lb) (now ld) (now lm) ⌝ }
+    ensures { λ r. ⌜ ListJudged (now (a .entry)) (now (b .entry)) (now (list .entry)) (now (la .exit)) (now (lb .exit)) (now (ld .exit)) (now (lm .exit)) r ⌝ }
+{
+    let n = read_links(list, la, lb, ld, lm);
+    if zero_from(list, n) {
+        if all(a, b, &la[..n], &lb[..n], &ld[..n], &lm[..n]) {
+            return Answer::Done(n as u16);
+        }
+    }
+    compare(a, b, list, la, lb, ld, lm)
+}
+
 // The lengths, both tables and the list; where it is done, its value counts the links.
 pub fn list(
     a: &[u8],
@@ -100,7 +125,7 @@ pub fn list(
 {
     let verdict = tables(a, b, list);
     match verdict {
-        Answer::Done(_) => compare(a, b, list, la, lb, ld, lm),
+        Answer::Done(_) => review(a, b, list, la, lb, ld, lm),
         _ => verdict,
     }
 }

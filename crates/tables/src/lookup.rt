@@ -5,8 +5,9 @@ ghost use Prim.Native.Nat.{_≤_, _<_};
 ghost use mathlib.Core.Path.{_≡_};
 ghost use mathlib.Core.Bool.{true};
 ghost use lib.ListN.{length, getD};
+ghost use Rattle.matching.specs.Definitions.Columns.{Distinct};
 ghost use Rattle.tables.specs.Definitions.Sizes.{nodeRows};
-ghost use Rattle.tables.specs.Laws.LookUp.{slots, slotOf, lookUp, Distinct};
+ghost use Rattle.tables.specs.Laws.LookUp.{slots, slotOf, lookUp};
 use super::sizes::NODES;
 
 pub const SLOTS: usize = 1024;
@@ -84,4 +85,18 @@ pub fn index(ns: &[u32], head: &mut [u16], next: &mut [u16]) -> bool
 {
     chain(ns, head, next);
     all_found(ns, head, next)
+}
+
+// For each of the numbers the place where it was found, or the count of places. A hint: who uses it compares again.
+pub fn locate(ns: &[u32], numbers: &[u32], places: &mut [usize])
+    requires { ⌜ (length (now ns) ≤ nodeRows) × (length (now places) ≡ length (now numbers)) ⌝ }
+{
+    let mut head = [0u16; SLOTS];
+    let mut next = [0u16; NODES];
+    chain(ns, &mut head, &mut next);
+    let mut k = 0;
+    while k < numbers.len() {
+        places[k] = probe(ns, &head, &next, numbers[k]);
+        k += 1;
+    }
 }

@@ -8,10 +8,6 @@ use lib.Dec.{eqb}
 use Rattle.join.specs.Sizes.{numberRange}
 use Rattle.verify.specs.Sizes.{free}
 
--- No number stands twice.
-abbrev pub Distinct : List ℕ → Type 0
-Distinct ns = (i j : ℕ) → i < length ns → j < length ns → getD ns i 0 ≡ getD ns j 0 → i ≡ j
-
 -- What the first n rows take of the node with number x.
 unfoldable pub takenOf : List ℕ → List ℕ → ℕ → ℕ → ℕ
 takenOf own lm zero x = 0

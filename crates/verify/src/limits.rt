@@ -4,9 +4,10 @@ ghost use Prim.Native.Nat.{_<_, _≤_};
 ghost use mathlib.Core.Path.{_≡_};
 ghost use mathlib.Core.Bool.{true};
 ghost use lib.ListN.{length, getD};
+ghost use Rattle.matching.specs.Definitions.Columns.{Distinct};
 ghost use Rattle.join.specs.Sizes.{masterRows};
 ghost use Rattle.verify.specs.Rows.{Located};
-ghost use Rattle.verify.specs.Limits.{Distinct, SpentRow, Spent, distanceLimit, numberLimit, Noted, Sided};
+ghost use Rattle.verify.specs.Limits.{SpentRow, Spent, distanceLimit, numberLimit, Noted, Sided};
 
 // Takes row k's amount m of place i, and keeps its key there.
 fn spend_row(m: u32, key: u64, i: usize, left: &mut [u32], last: &mut [u64]) -> bool

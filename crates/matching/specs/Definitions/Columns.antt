@@ -1,5 +1,6 @@
 -- Nodes and links as code holds them: a column for each field, read by index.
-use Prim.Native.Nat.{ℕ, zero, suc, _≤_}
+use Prim.Native.Nat.{ℕ, zero, suc, _<_, _≤_}
+use mathlib.Core.Path.{_≡_}
 use mathlib.Core.List.{List, [], _∷_}
 use lib.ListN.{length, getD}
 use lib.IntN.{ℤ, pos, _-ℤ_, natAbs}
@@ -18,6 +19,10 @@ nodeAt ns xs ys ks i = record { number = getD ns i 0; x = getD xs i (pos 0); y =
 unfoldable pub nodesOf : List ℕ → List ℤ → List ℤ → List ℕ → List Node
 unfolding tabulate
 nodesOf ns xs ys ks = tabulate (nodeAt ns xs ys ks) 0 (length ns)
+
+-- No number stands twice.
+abbrev pub Distinct : List ℕ → Type 0
+Distinct ns = (i j : ℕ) → i < length ns → j < length ns → getD ns i 0 ≡ getD ns j 0 → i ≡ j
 
 -- The first n links that columns of A numbers, B numbers, distances and amounts denote.
 abbrev pub linkAt : List ℕ → List ℕ → List ℕ → List ℕ → ℕ → Link

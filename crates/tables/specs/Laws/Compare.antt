@@ -22,7 +22,7 @@ use Rattle.tables.specs.Definitions.Fields.{Bytes, natAt}
 use Rattle.tables.specs.Definitions.Rows.{flat, padded, allFrom}
 use Rattle.tables.specs.Definitions.Lists.{linkBytes, listBytes, linkFrom, differs, firstDifference}
 use Rattle.tables.specs.Laws.Fields.{nat-zeros}
-use Rattle.tables.specs.Laws.Rows.{none-from, zeros, all-from, from-all}
+use Rattle.tables.specs.Laws.Rows.{none-from, from-none, zeros, all-from, from-all}
 use Rattle.tables.specs.Laws.Lists.{GoodLink, link-length, list-length, list-bytes, link-drop, link-read}
 use Rattle.tables.specs.Laws.ListCode.{Long}
 use Rattle.tables.specs.Laws.ListRead.{row-bytes}
@@ -179,7 +179,13 @@ module _ (f g : ℕ → Link) (n m k w : ℕ) (i : w ≡ k + commonFrom f g n m 
       let none : commonFrom f g n m k ≡ 0 = rw (p, q) in
       omega (arith, none)
 
--- Lists without a differing row are the same.
+-- A list does not differ from itself,
+pub same-difference : (l : List ℕ) → firstDifference l l ≡ none
+unfolding firstDifference differs
+same-difference l = from-none (differs l l) linkRows 0 (λ k h g.
+    ap not (all-from (λ (i : ℕ). eqb (getD l i 0) (getD l i 0)) (linkSize * k) linkSize (λ i a b. eq-eqb (getD l i 0) (getD l i 0) refl)))
+
+-- and lists without a differing row are the same.
 pub no-difference : (l f : List ℕ) → length l ≡ listSize → length f ≡ listSize → firstDifference l f ≡ none → l ≡ f
 unfolding firstDifference differs
 no-difference l f s r e = ext-getD 0 l f (s ∙ sym r) (λ i h. at i (i / linkSize) (omega arith) (omega arith) (omega arith))

@@ -7,6 +7,7 @@ use native.Mathlib.Omega.{arith}
 use lib.Dec.{ltb, eqb}
 use lib.ListN.{length, getD}
 use borrow.Author.Tests.{eq-eqb, ne-eqb, lt-ltb, le-ltb}
+use Rattle.matching.specs.Definitions.Columns.{Distinct}
 use Rattle.tables.specs.Definitions.Sizes.{nodeRows}
 
 -- How many chains there are, and the chain of a number.
@@ -59,10 +60,6 @@ module _ (ns next : List ℕ) (n f i : ℕ) where
     walk-on e l d =
         ap (λ (g : ℕ). walk ns next n g i) more ∙ rw (ne-eqb i 0 e, le-ltb (length ns) i l, ne-eqb (getD ns (i - 1) 0) n d)
 
--- No number stands twice.
-abbrev pub Distinct : List ℕ → Type 0
-Distinct ns = (i j : ℕ) → i < length ns → j < length ns → getD ns i 0 ≡ getD ns j 0 → i ≡ j
-
--- Where each place is found by its number, none does.
+-- Where each place is found by its number, no number stands twice.
 pub found-distinct : (ns head next : List ℕ) → ((i : ℕ) → i < length ns → lookUp ns head next (getD ns i 0) ≡ i) → Distinct ns
 found-distinct ns head next h i j a b e = sym (h i a) ∙ ap (lookUp ns head next) e ∙ h j b

@@ -12,7 +12,7 @@ use lib.ListN.{length, getD, take}
 use lib.Seq.{getD-take, length-take-le}
 use borrow.Author.Tests.{eq-eqb, ne-eqb}
 use Rattle.matching.specs.Definitions.Nodes.{Node}
-use Rattle.matching.specs.Definitions.Columns.{nodeAt}
+use Rattle.matching.specs.Definitions.Columns.{nodeAt, Distinct}
 use Rattle.matching.specs.Laws.Columns.{tabulate-get, tabulate-length}
 use Rattle.tables.specs.Definitions.Sizes.{nodeSize, nodeRows}
 use Rattle.tables.specs.Definitions.Tables.{nodeFrom, rowNumber, nodesFrom, nodesIn, fieldsGood, fieldsZero, faulty, firstFault}
@@ -21,7 +21,6 @@ use Rattle.tables.specs.declared.faults.Fault.the-variants.{None, Row}
 use Rattle.tables.specs.Laws.Rows.{from-none}
 use Rattle.tables.specs.Laws.Faultless.{not-stands}
 use Rattle.tables.specs.Laws.Faults.{faulty-zero, faulty-gap}
-use Rattle.tables.specs.Laws.LookUp.{Distinct}
 use Rattle.tables.specs.Laws.Decode.{Decoded}
 
 -- Row k is zero.

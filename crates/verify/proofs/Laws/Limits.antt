@@ -11,10 +11,11 @@ use lib.Seq.{getD-set-same, getD-set-other}
 use lib.Dec.{eqb}
 use borrow.Author.Count.{below-more}
 use borrow.Author.Tests.{eq-eqb, ne-eqb}
+use Rattle.matching.specs.Definitions.Columns.{Distinct}
 use Rattle.join.specs.Sizes.{numberRange}
 use Rattle.join.specs.Nearest.{Packed}
 use Rattle.verify.specs.Rows.{Located}
-use Rattle.verify.specs.Limits.{Distinct, takenOf, keyAt, SpentRow, distanceLimit, numberLimit, Noted, Spent, Limit, unlimited, limited, Sided}
+use Rattle.verify.specs.Limits.{takenOf, keyAt, SpentRow, distanceLimit, numberLimit, Noted, Spent, Limit, unlimited, limited, Sided}
 
 -- A store at place k, after places below k.
 pub stored-below : (P : ℕ → ℕ → Type 0) (xs : List ℕ) (k v : ℕ) → k < length xs → ((j : ℕ) → j < k → P j (getD xs j 0)) → P k v

@@ -14,7 +14,7 @@ use Rattle.matching.specs.Definitions.Nodes.{Master, masterA, masterB, each, No
 use Rattle.matching.specs.Definitions.Pairs.{Pair, numberIn, distance, pair, Before, nearer, lowerA, lowerB}
 use Rattle.matching.specs.Definitions.Links.{Link, pairOf, used}
 use Rattle.matching.specs.Definitions.Join.{join}
-use Rattle.matching.specs.Definitions.Columns.{nodeAt, nodesOf, linkAt, linksOf}
+use Rattle.matching.specs.Definitions.Columns.{Distinct, nodeAt, nodesOf, linkAt, linksOf}
 use Rattle.matching.specs.Laws.Distance.{inside-reach, distance-fits}
 use Rattle.matching.specs.Laws.Amounts.{other, Named}
 use Rattle.matching.specs.Laws.Columns.{nodes-length, nodes-get, nodes-all, same-place}
@@ -25,7 +25,7 @@ use Rattle.join.specs.Rows.{Placed}
 use Rattle.join.specs.Nearest.{across}
 use Rattle.verify.specs.Sizes.{free}
 use Rattle.verify.specs.Rows.{Level, pairAt, Located, Apart}
-use Rattle.verify.specs.Limits.{Distinct, Limit, unlimited, limited, Sided}
+use Rattle.verify.specs.Limits.{Limit, unlimited, limited, Sided}
 use Rattle.verify.specs.Open.{late, Ruled, Shut}
 use Rattle.verify.proofs.Laws.Links.{node-in, increasing-tabulate, links-all, used-taken}
 
