@@ -40,7 +40,7 @@ fn beside(
     let n = decode(b, &mut ns, &mut xs, &mut ys, &mut ks);
     let mut ib = [0usize; LINKS];
     let m = lb.len();
-    locate(&ns[..n], lb, &mut ib[..m]);
+    locate(&ns[..n], lb, &mut ib);
     verify::verify(
         an,
         ax,
@@ -71,7 +71,7 @@ pub fn all(a: &[u8], b: &[u8], la: &[u32], lb: &[u32], ld: &[u32], lm: &[u32]) -
     let n = decode(a, &mut ns, &mut xs, &mut ys, &mut ks);
     let mut ia = [0usize; LINKS];
     let m = la.len();
-    locate(&ns[..n], la, &mut ia[..m]);
+    locate(&ns[..n], la, &mut ia);
     beside(
         &ns[..n],
         &xs[..n],

@@ -6,7 +6,7 @@ ghost use mathlib.Core.Path.{_≡_};
 ghost use mathlib.Core.Bool.{true};
 ghost use lib.ListN.{length, getD};
 ghost use Rattle.matching.specs.Definitions.Columns.{Distinct};
-ghost use Rattle.tables.specs.Definitions.Sizes.{nodeRows};
+ghost use Rattle.tables.specs.Definitions.Sizes.{nodeRows, linkRows};
 ghost use Rattle.tables.specs.Laws.LookUp.{slots, slotOf, lookUp};
 use super::sizes::NODES;
 
@@ -89,7 +89,8 @@ pub fn index(ns: &[u32], head: &mut [u16], next: &mut [u16]) -> bool
 
 // For each of the numbers the place where it was found, or the count of places. A hint: who uses it compares again.
 pub fn locate(ns: &[u32], numbers: &[u32], places: &mut [usize])
-    requires { ⌜ (length (now ns) ≤ nodeRows) × (length (now places) ≡ length (now numbers)) ⌝ }
+    requires { ⌜ (length (now ns) ≤ nodeRows) × (length (now numbers) ≤ linkRows) × (length (now places) ≡ linkRows) ⌝ }
+    ensures { λ _. ⌜ length (now (places .exit)) ≡ linkRows ⌝ }
 {
     let mut head = [0u16; SLOTS];
     let mut next = [0u16; NODES];

@@ -40,8 +40,8 @@ module _ (l la lb ld lm : List ℕ) (n : ℕ) (r : LinksRead l la lb ld lm n) wh
   cut-links =
       ap (tabulate (linkAt (take n la) (take n lb) (take n ld) (take n lm)) 0) (cut la (r .a))
       ∙ tabulate-cong (linkAt (take n la) (take n lb) (take n ld) (take n lm)) (linkAt la lb ld lm) 0 n (λ i z h.
-          let g : i < n = omega arith in
-          λ t. record { a = getD-take n la i 0 g t; b = getD-take n lb i 0 g t; distance = getD-take n ld i 0 g t; amount = getD-take n lm i 0 g t })
+      let g : i < n = omega arith in
+      λ t. record { a = getD-take n la i 0 g t; b = getD-take n lb i 0 g t; distance = getD-take n ld i 0 g t; amount = getD-take n lm i 0 g t })
 
   pub read-judged : (a b : List ℕ) → Sound a b → Bytes a → Bytes b → Bytes l → length l ≡ listSize → zeroFrom l n ≡ true
       → linksOf (take n la) (take n lb) (take n ld) (take n lm) (length (take n la)) ≡ join (nodesIn a) (nodesIn b) → ListJudged a b l la lb ld lm (Done n)

@@ -16,14 +16,14 @@ use Rattle.tables.specs.Laws.Accepted.{nodes-good}
 use Rattle.join.specs.Contract.{Fit}
 
 module _ (t ns : List ℕ) (xs ys : List ℤ) (ks : List ℕ) (n : ℕ) (d : Decoded t ns xs ys ks n) where
-  long : length (take n ns) ≡ n
-  long = length-take-le n ns (omega (arith, d .within, d .rooms .0))
+  pub decoded-long : length (take n ns) ≡ n
+  decoded-long = length-take-le n ns (omega (arith, d .within, d .rooms .0))
 
   -- They denote its nodes.
   pub decoded-nodes : nodesOf (take n ns) (take n xs) (take n ys) (take n ks) ≡ nodesIn t
   unfolding nodesOf
   decoded-nodes =
-      ap (tabulate (nodeAt (take n ns) (take n xs) (take n ys) (take n ks)) 0) long
+      ap (tabulate (nodeAt (take n ns) (take n xs) (take n ys) (take n ks)) 0) decoded-long
       ∙ tabulate-cong (nodeAt (take n ns) (take n xs) (take n ys) (take n ks)) (nodeAt ns xs ys ks) 0 n same
       ∙ d .nodes
     where
@@ -39,13 +39,13 @@ module _ (t ns : List ℕ) (xs ys : List ℤ) (ks : List ℕ) (n : ℕ) (d : Dec
 
   pub decoded-fit : Accepted t → Fit (take n ns) (take n xs) (take n ys) (take n ks)
   decoded-fit h = record {
-    most = omega (arith, long, d .within);
+    most = omega (arith, decoded-long, d .within);
     columns = record {
-      len-x = length-take-le n xs (omega (arith, d .within, d .rooms .1)) ∙ sym long;
-      len-y = length-take-le n ys (omega (arith, d .within, d .rooms .2)) ∙ sym long;
+      len-x = length-take-le n xs (omega (arith, d .within, d .rooms .1)) ∙ sym decoded-long;
+      len-y = length-take-le n ys (omega (arith, d .within, d .rooms .2)) ∙ sym decoded-long;
       inside = inside;
     };
-    len-c = length-take-le n ks (omega (arith, d .within, d .rooms .3)) ∙ sym long;
+    len-c = length-take-le n ks (omega (arith, d .within, d .rooms .3)) ∙ sym decoded-long;
     unique = rw decoded-nodes (nodes-good t h .unique);
   }
     where
@@ -57,6 +57,6 @@ module _ (t ns : List ℕ) (xs ys : List ℤ) (ks : List ℕ) (n : ℕ) (d : Dec
 
       inside : (i : ℕ) → i < length (take n ns) → Inside (getD (take n xs) i (pos 0)) (getD (take n ys) i (pos 0))
       inside i l =
-          let g : i < n = omega (arith, long) in
+          let g : i < n = omega (arith, decoded-long) in
           let v = good i g in
           rw (getD-take n xs i (pos 0) g, getD-take n ys i (pos 0) g) (omega (arith, v .across), v .up)

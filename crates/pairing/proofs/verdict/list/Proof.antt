@@ -11,8 +11,8 @@ tables-requires c κs = search needs
 enum-told : tie.Need-enum-told
 enum-told c = search needs
 
-compare-requires : tie.Need-compare-requires
-compare-requires c κs = let x = c .before .before .before .before .before .before .before .before .before .before .before .before .before .before .args in (tables-sound (x .a .now) (x .b .now) (x .list .now) (c .before .before .before .before .before .before .tables .result) (c .before .before .before .before .before .match .keys1) (c .before .before .before .before .before .before .tables .ensures), c .before .before .before .before .before .before .before .before .before .before .before .before .before .before .pre)
+review-requires : tie.Need-review-requires
+review-requires c κs = let x = c .before .before .before .before .before .before .before .before .before .before .before .before .before .before .args in (tables-sound (x .a .now) (x .b .now) (x .list .now) (c .before .before .before .before .before .before .tables .result) (c .before .before .before .before .before .match .keys1) (c .before .before .before .before .before .before .tables .ensures), c .before .before .before .before .before .before .before .before .before .before .before .before .before .before .pre)
 
 same-length : tie.Need-same-length
 same-length c = search needs
@@ -40,7 +40,7 @@ list-spec =
     (tie.spec
     tables-requires
     enum-told
-    compare-requires
+    review-requires
     same-length
     same-length-2
     same-length-3

@@ -1,5 +1,6 @@
--- `lookup::locate` keeps the lengths; nothing is promised of the places. Assumes nothing.
+-- `lookup::locate` keeps the length; nothing is promised of the places. Assumes nothing.
 use borrow.Author.Needs.{needs}
+use Rattle.tables.specs.Definitions.Sizes.{linkRows}
 use lib.ListN.{length, length-set}
 use native.Mathlib.Omega.{arith}
 use mathlib.Core.Path.{_≡_}
@@ -8,7 +9,7 @@ use Rattle.tables.proofs.lookup.locate.Statement.{statement}
 use Rattle.tables.proofs.lookup.locate.Tie as tie
 
 abbrev Inv-loop : tie.InvT-loop
-Inv-loop ns numbers places₀ head next k₀ places k = (length places ≡ length places₀) × (k ≤ length numbers)
+Inv-loop ns numbers places₀ head next k₀ places k = (length places ≡ linkRows) × (k ≤ length numbers)
 
 abbrev μ-loop : tie.MeasureT-loop
 μ-loop ns numbers places₀ head next k₀ places k = length numbers - k
@@ -59,7 +60,7 @@ same-length : tie.Need-same-length Inv-loop μ-loop
 same-length c = search needs
 
 returns : tie.Need-returns Inv-loop μ-loop
-returns c = search needs
+returns c = c .before .loop .inv .0
 
 pub locate-spec : {M : Type 1} → statement M
 locate-spec =
