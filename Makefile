@@ -1,7 +1,7 @@
 # make test   the gate: proofs, must-fail edits, tests; its last line is "N passed, 0 failed"
 # make run    builds the replay program and replays a sample drawing: its links before and after two edits
 # make proved proves every crate and prints what is proved
-# make bench  the engine's join timed beside two ordinary ones
+# make bench  whole calls timed beside two peers in safe Rust; ONLY=edit picks the calls with that in their name
 # make fuzz   the five calls beside the model on fresh seeds, for SECONDS=n (60)
 # make help   this list
 .PHONY: help test run bench fuzz proved
@@ -24,7 +24,7 @@ proved:
 
 bench:
 	@rt staticlib pairing
-	@cargo run --release --offline --manifest-path rust/bench/Cargo.toml
+	@ONLY="$(ONLY)" cargo run --release --offline --manifest-path rust/bench/Cargo.toml
 
 fuzz:
 	@rt staticlib pairing
