@@ -7,7 +7,7 @@
 //! - [`chain`], [`check`]: the engine's own method, once more.
 //! - [`sorted`]: the plain way, all pairs sorted, to check a list and to make one.
 //! - [`bytes`]: tables to nodes and links to a list, as both peers do it.
-//! - [`measure`]: the three by turns on the same calls, timed and compared.
+//! - [`measure`]: the three by turns on the same calls, timed by [`clock`] and compared.
 //! - [`count`]: the instructions of one fixed case.
 //! - [`report`], [`aims`]: the tables, and what was to be reached.
 
@@ -18,6 +18,7 @@ pub mod calls;
 pub mod cases;
 pub mod chain;
 pub mod check;
+pub mod clock;
 pub mod count;
 pub mod measure;
 pub mod peer;

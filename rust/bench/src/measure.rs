@@ -1,13 +1,12 @@
 //! The engine and its peers by turns on the same calls: timed, and every answer and byte compared.
 
-use std::time::Instant;
-
 use model::engine::Buffers;
 use model::generate::random::Random;
 
 use crate::archive::Archive;
 use crate::calls::Calls;
 use crate::cases::{Call, Case};
+use crate::clock::now;
 use crate::peer::{Peer, Same};
 use crate::shapes::{Class, DRAWINGS};
 use crate::sorted::Sorted;
@@ -123,9 +122,9 @@ impl Bench {
         for which in (0..callers).map(|place| (turn + place * step) % callers) {
             let mut lent = case.lent.clone();
             let caller = &mut self.callers[which];
-            let start = Instant::now();
+            let start = now();
             let answer = caller.run(&case.request, &mut lent);
-            times.push((which, start.elapsed().as_secs_f64() * 1e6));
+            times.push((which, now() - start));
             match &first {
                 None => first = Some((which, answer, lent)),
                 Some((other, said, left)) if (answer, &lent) != (*said, left) => {

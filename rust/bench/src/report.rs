@@ -16,9 +16,9 @@ pub fn heading() -> String {
         "Whole calls through the archive, by turns with two peers in safe Rust; after each turn every answer and every\n\
          lent byte is compared. `same` is the engine's method: the lent list is checked without a join, and the new one is\n\
          made by the chain. `plain` sorts all pairs, once to check the lent list and once for the new one.\n\
-         Medians over {} calls, {DRAWINGS} drawings {ROUNDS} times ({} for `plain`), after one time that is not counted.\n\
-         Each call gets fresh copies of its buffers, not timed; nothing else is cleared: the peers keep their own memory,\n\
-         and caches stay warm. `worst` is the engine's longest call, with the machine's interruptions in it.",
+         Processor time of the calling thread: medians over {} calls, {DRAWINGS} drawings {ROUNDS} times ({} for `plain`), after\n\
+         one time that is not counted. `worst` is the engine's longest call. Each call gets fresh copies of its buffers, not\n\
+         timed; nothing else is cleared: the peers keep their own memory, and caches stay warm.",
         DRAWINGS * ROUNDS,
         DRAWINGS * ROUNDS / PLAIN_EVERY
     )
