@@ -31,7 +31,7 @@ stack:
 	@rt staticlib pairing
 	@$(MAKE) -s stack-run
 
-# The archive as it stands, for the gate.
+## The archive as it stands, for the gate.
 stack-run:
 	@mkdir -p target
 	@g++ -std=c++17 -O2 -Wall -Wextra -Werror -pedantic -Iinclude rust/bench/stack.cpp target/staticlib/libpairing.a -pthread -o target/stack
