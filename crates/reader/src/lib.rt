@@ -99,7 +99,7 @@ pub struct Reader<'a> {
 }
 
 // A reader at the first node. The table is judged here, and only here.
-pub fn open<'a>(table: &'a [u8]) -> Reader<'a>
+pub fn new<'a>(table: &'a [u8]) -> Reader<'a>
     ensures { λ r. ⌜ (r .table ≡ table .entry) × (r .row ≡ startRow (now (table .entry))) ⌝ }
 {
     Reader { table, row: start(table) }
@@ -130,12 +130,12 @@ pub fn find<'a>(r: Reader<'a>, n: u32) -> Found
 pub fn nth_node(table: &[u8], k: usize) -> Found
     ensures { λ f. ⌜ f ≡ foundOf (nth (readable (now (table .entry))) k) ⌝ }
 {
-    read(skip(open(table), k))
+    read(skip(new(table), k))
 }
 
 // and the node with a number.
 pub fn look_up(table: &[u8], n: u32) -> Found
     ensures { λ f. ⌜ f ≡ foundOf (numbered n (readable (now (table .entry)))) ⌝ }
 {
-    find(open(table), n)
+    find(new(table), n)
 }
