@@ -1,5 +1,5 @@
 -- What a reader gives: by number, and from the start on.
-use Prim.Native.Nat.{ℕ, zero, suc, _+_, _<_, _≤_, min}
+use Prim.Native.Nat.{ℕ, zero, suc, _+_, _-_, _<_}
 use mathlib.Core.Path.{_≡_, refl, sym, _∙_, ap, ap₂}
 use mathlib.Core.Bool.{Bool, true, false, cond}
 use mathlib.Core.Option.{Option, none, some}
@@ -11,6 +11,7 @@ use lib.Dec.{eqb}
 use lib.ListN.{length, replicate}
 use borrow.Author.Tests.{eqb-true}
 use Rattle.matching.specs.Definitions.Nodes.{Node}
+use Rattle.matching.specs.Definitions.Columns.{tabulate}
 use Rattle.tables.specs.Definitions.Sizes.{nodeRows, tableSize}
 use Rattle.tables.specs.Definitions.Tables.{nodesIn, firstFault}
 use Rattle.tables.specs.Laws.Rows.{and-split}
@@ -98,3 +99,69 @@ module _ (t : List ℕ) where
           ∙ refused-number n
           ∙ sym (numbered-empty n)
           ∙ ap (numbered n) (sym (readable-none e))
+
+-- What reading gives m times from row k on, one node on each time.
+unfoldable pub reads : List ℕ → ℕ → ℕ → List (Option Node)
+reads t k zero = []
+reads t k (suc m) = nodeAt t k ∷ reads t (rowAfter k 1) m
+
+after-none : (k : ℕ) → rowAfter k 0 ≡ k
+after-none k = go (decLt nodeRows k)
+  where
+    go : Dec (nodeRows < k) → rowAfter k 0 ≡ k
+    go (yes h) = sym (after-refused k 0 h)
+    go (no h) = sym (after-more k 0 (omega arith) (omega arith)) ∙ omega arith
+
+after-suc : (k i : ℕ) → rowAfter (rowAfter k i) 1 ≡ rowAfter k (suc i)
+after-suc k i = go (decLt nodeRows k) (decLt (nodeRows - k) i) (decLt (nodeRows - k) (suc i))
+  where
+    go : Dec (nodeRows < k) → Dec (nodeRows - k < i) → Dec (nodeRows - k < suc i) → rowAfter (rowAfter k i) 1 ≡ rowAfter k (suc i)
+    go (yes h) f g = ap (λ (j : ℕ). rowAfter j 1) (sym (after-refused k i h)) ∙ sym (after-refused k 1 h) ∙ after-refused k (suc i) h
+    go (no h) (yes f) g =
+        ap (λ (j : ℕ). rowAfter j 1) (sym (after-end k i (omega arith) f))
+        ∙ sym (after-end nodeRows 1 (omega arith) (omega arith))
+        ∙ after-end k (suc i) (omega arith) (omega arith)
+    go (no h) (no f) (yes g) =
+        ap (λ (j : ℕ). rowAfter j 1) (sym (after-more k i (omega arith) (omega arith)))
+        ∙ sym (after-end (k + i) 1 (omega arith) (omega arith))
+        ∙ after-end k (suc i) (omega arith) g
+    go (no h) (no f) (no g) =
+        let e : k + i + 1 ≡ k + suc i = omega arith in
+        ap (λ (j : ℕ). rowAfter j 1) (sym (after-more k i (omega arith) (omega arith)))
+        ∙ sym (after-more (k + i) 1 (omega arith) (omega arith))
+        ∙ e
+        ∙ after-more k (suc i) (omega arith) (omega arith)
+
+reads-nth : (t : List ℕ) (m i : ℕ) → reads t (rowAfter (startRow t) i) m ≡ tabulate (nth (readable t)) i m
+unfolding reads tabulate
+reads-nth t zero i = refl
+reads-nth t (suc m) i =
+    ap₂ (λ (o : Option Node) (l : List (Option Node)). o ∷ l) (read-on t i)
+    (ap (λ (k : ℕ). reads t k m) (after-suc (startRow t) i) ∙ reads-nth t m (suc i))
+
+nths-none : (m i : ℕ) → tabulate (nth []) i m ≡ replicate m none
+unfolding tabulate nth
+nths-none zero i = refl
+nths-none (suc m) i = ap (λ (l : List (Option Node)). none ∷ l) (nths-none m (suc i))
+
+nths-rest : (v : Node) (A : List Node) (m i : ℕ) → tabulate (nth (v ∷ A)) (suc i) m ≡ tabulate (nth A) i m
+unfolding tabulate nth
+nths-rest v A zero i = refl
+nths-rest v A (suc m) i = ap (λ (l : List (Option Node)). nth A i ∷ l) (nths-rest v A m (suc i))
+
+nths-more : (v : Node) (A : List Node) (m : ℕ) → tabulate (nth (v ∷ A)) 0 (suc (length A) + m) ≡ some v ∷ tabulate (nth A) 0 (length A + m)
+unfolding tabulate nth
+nths-more v A m =
+    let e : suc (length A) + m ≡ suc (length A + m) = omega arith in
+    ap (tabulate (nth (v ∷ A)) 0) e ∙ ap (λ (l : List (Option Node)). some v ∷ l) (nths-rest v A (length A + m) 0)
+
+nths-all : (A : List Node) (m : ℕ) → tabulate (nth A) 0 (length A + m) ≡ map some A ++ replicate m none
+nths-all [] m = ap (tabulate (nth []) 0) (zero-add m) ∙ nths-none m 0
+nths-all (v ∷ A) m = nths-more v A m ∙ ap (λ (l : List (Option Node)). some v ∷ l) (nths-all A m)
+
+-- Reading from the start gives exactly the nodes, in row order, and then none for ever.
+pub reads-all : (t : List ℕ) (m : ℕ) → reads t (startRow t) (length (readable t) + m) ≡ map some (readable t) ++ replicate m none
+reads-all t m =
+    ap (λ (k : ℕ). reads t k (length (readable t) + m)) (sym (after-none (startRow t)))
+    ∙ reads-nth t (length (readable t) + m) 0
+    ∙ nths-all (readable t) m

@@ -2,9 +2,6 @@
 // A table of a wrong length or with a faulty row gives none. The functions over `Reader` are thin, for their proofs
 // are done by hand: the work is in the functions on the slice and a row, which other callers may use too.
 ghost use mathlib.Core.Path.{_≡_};
-ghost use Prim.Native.Nat.{_<_};
-ghost use lib.ListN.{length};
-ghost use Rattle.tables.specs.Definitions.Sizes.{nodeRows, tableSize};
 ghost use Rattle.reader.specs.Definitions.{nth, numbered, readable, startRow, nodeAt, rowAfter, nodeOf, foundOf};
 use tables::faults::Fault;
 use tables::faults::row_number;
@@ -13,9 +10,9 @@ use tables::find::capacity_in;
 use tables::find::row_of;
 use tables::nodes::fault;
 use tables::sizes::NODE;
-use tables::sizes::NODES;
 use tables::sizes::NODE_X;
 use tables::sizes::NODE_Y;
+use tables::sizes::NODES;
 use tables::sizes::TABLE;
 
 pub struct Node {
@@ -63,7 +60,12 @@ pub fn node_at(t: &[u8], k: usize) -> Found
     let x = position_at(t, NODE * k + NODE_X);
     let y = position_at(t, NODE * k + NODE_Y);
     let capacity = capacity_in(t, k);
-    Found::One(Node { number, x, y, capacity })
+    Found::One(Node {
+        number,
+        x,
+        y,
+        capacity,
+    })
 }
 
 // The row n nodes behind row k. Reading stays at the end, and what is refused stays so.
@@ -102,7 +104,10 @@ pub struct Reader<'a> {
 pub fn new<'a>(table: &'a [u8]) -> Reader<'a>
     ensures { λ r. ⌜ (r .table ≡ table .entry) × (r .row ≡ startRow (now (table .entry))) ⌝ }
 {
-    Reader { table, row: start(table) }
+    Reader {
+        table,
+        row: start(table),
+    }
 }
 
 // The node that the reader is at, or that there is none left.
@@ -116,7 +121,10 @@ pub fn read<'a>(r: Reader<'a>) -> Found
 pub fn skip<'a>(r: Reader<'a>, n: usize) -> Reader<'a>
     ensures { λ q. ⌜ (q .table ≡ r .entry .table) × (q .row ≡ rowAfter (r .entry .row) n) ⌝ }
 {
-    Reader { table: r.table, row: row_after(r.row, n) }
+    Reader {
+        table: r.table,
+        row: row_after(r.row, n),
+    }
 }
 
 // The node with the number n, wherever the reader is.

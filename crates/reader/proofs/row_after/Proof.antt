@@ -1,5 +1,4 @@
 -- `reader::row_after` meets its contract. Assumes nothing.
-use native.Mathlib.Omega.{arith}
 use Rattle.reader.specs.Laws.{after-refused, after-end, after-more}
 use borrow.Author.Needs.{needs}
 use Rattle.reader.proofs.row_after.Statement.{statement}
