@@ -8,6 +8,7 @@ use lib.ListN.{length}
 use Rattle.matching.specs.Definitions.Nodes.{Node}
 use Rattle.tables.specs.Definitions.Sizes.{nodeSize, nodeRows, tableSize}
 use Rattle.tables.specs.Definitions.Tables.{nodeFrom, rowNumber, nodesIn, firstFault}
+use Rattle.reader.specs.declared.Node.{Node as Held}
 use Rattle.reader.specs.declared.Found.{Found}
 use Rattle.reader.specs.declared.Found.the-variants.{Nothing, One}
 
@@ -51,7 +52,10 @@ nodeAt t k = cond (eqb (length t) tableSize && ltb k nodeRows) (cond (eqb (rowNu
 unfoldable pub nodeOf : List ℕ → ℕ → ℕ → Option Node
 nodeOf t k n = cond (eqb (length t) tableSize && leb k nodeRows) (numbered n (nodesIn t)) none
 
--- The code's own answer, by cases.
+-- The code's own node as the definitions have it, and its answer, by cases.
+abbrev pub asNode : Held → Node
+asNode v = record { number = v .number; x = v .x; y = v .y; capacity = v .capacity }
+
 abbrev pub foundOf : Option Node → Found
 foundOf none = Nothing
 foundOf (some v) = One (record { number = v .number; x = v .x; y = v .y; capacity = v .capacity })

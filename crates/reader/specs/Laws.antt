@@ -2,7 +2,7 @@
 use Prim.Native.Nat.{ℕ, zero, suc, _+_, _*_, _-_, _<_, _≤_}
 use mathlib.Core.Path.{_≡_, refl, sym, _∙_, ap}
 use mathlib.Core.Bool.{Bool, true, false, cond, _&&_, _||_}
-use mathlib.Core.Option.{none, some}
+use mathlib.Core.Option.{Option, none, some}
 use mathlib.Core.List.{List, [], _∷_}
 use native.Mathlib.Decide.{ℕ-discrete, decLt}
 use native.Mathlib.Nat.{min-eq-left, min-eq-right, zero-add}
@@ -19,7 +19,9 @@ use Rattle.tables.specs.Laws.Rows.{none-from}
 use Rattle.tables.specs.Laws.Sound.{fault-row, fault-none}
 use Rattle.tables.specs.Laws.Accepted.{with-number, not-before}
 use Rattle.tables.specs.Laws.Find.{RowOf}
-use Rattle.reader.specs.Definitions.{nth, numbered, missing, sound, refusedRow, startRow, rowAfter, nodeAt, nodeOf}
+use Rattle.reader.specs.declared.Node.{Node as Held}
+use Rattle.reader.specs.declared.Found.the-variants.{Nothing, One}
+use Rattle.reader.specs.Definitions.{nth, numbered, missing, sound, refusedRow, startRow, rowAfter, nodeAt, nodeOf, asNode, foundOf}
 
 -- The row n nodes on.
 module _ (k n : ℕ) where
@@ -197,3 +199,12 @@ module _ (t : List ℕ) (size : length t ≡ tableSize) where
         go : Dec (k < nodeRows) → length (nodesIn t) ≤ k → nodeAt t k ≡ none
         go (yes h) l = sym (node-zero t k size h (still-zero (length (nodesIn t)) k l h (last-zero (omega arith))))
         go (no h) l = sym (node-behind t k size (omega arith))
+
+-- The code's answer taken apart.
+pub found-one : (o : Option Node) (v : Held) → foundOf o ≡ One v → o ≡ some (asNode v)
+found-one none v e = absurd (let z : _≡_ {A = ℕ} 0 1 = cc in omega arith)
+found-one (some w) v e = let i : _≡_ {A = Held} (record { number = w .number; x = w .x; y = w .y; capacity = w .capacity }) v = cc in ap (λ (u : Held). some (asNode u)) i
+
+pub found-nothing : (o : Option Node) → foundOf o ≡ Nothing → o ≡ none
+found-nothing none e = refl
+found-nothing (some w) e = absurd (let z : _≡_ {A = ℕ} 0 1 = cc in omega arith)

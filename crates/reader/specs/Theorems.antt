@@ -1,5 +1,5 @@
 -- What a reader gives: by number, and from the start on.
-use Prim.Native.Nat.{ℕ, zero, suc, _+_, _-_, _<_}
+use Prim.Native.Nat.{ℕ, zero, suc, _+_, _-_, _<_, _≤_}
 use mathlib.Core.Path.{_≡_, refl, sym, _∙_, ap, ap₂}
 use mathlib.Core.Bool.{Bool, true, false, cond}
 use mathlib.Core.Option.{Option, none, some}
@@ -42,6 +42,13 @@ module _ (t : List ℕ) where
   pub readable-none : sound t ≡ false → readable t ≡ []
   unfolding readable
   readable-none e = ap (λ (b : Bool). cond b (nodesIn t) []) e
+
+  pub readable-room : length (readable t) ≤ nodeRows
+  readable-room = go (sound t) refl
+    where
+      go : (b : Bool) → sound t ≡ b → length (readable t) ≤ nodeRows
+      go true e = omega (arith, ap length (readable-sound e), room t)
+      go false e = omega (arith, ap length (readable-none e))
 
   refused-node : nodeAt t refusedRow ≡ none
   refused-node = go (ℕ-discrete (length t) tableSize)
