@@ -1,6 +1,6 @@
 -- Positions, nodes and answers, line by line.
-use Prim.Native.Nat.{ℕ, zero, suc, _+_, _≤_}
-use mathlib.Core.Path.{_≡_, refl, sym, _∙_, ap}
+use Prim.Native.Nat.{ℕ, zero, suc, _+_, _<_, _≤_}
+use mathlib.Core.Path.{_≡_, refl, sym, _∙_, ap, ap₂}
 use mathlib.Core.Bool.{true, false}
 use mathlib.Core.Option.{none, some}
 use mathlib.Core.List.{List, [], _∷_, _++_, append-nil}
@@ -10,14 +10,17 @@ use lib.IntN.{ℤ, pos, negsuc, natAbs}
 use lib.ListN.{length, take}
 use lib.Signed.{ltZ}
 use lib.Seq.{take-all}
-use borrow.Author.Tests.{ltb-true}
+use borrow.Author.Tests.{ltb-true, lt-ltb, le-ltb}
 use Rattle.matching.specs.Definitions.Nodes.{Node}
+use Rattle.tables.specs.Definitions.Sizes.{numberSize}
+use Rattle.tables.specs.Definitions.Fields.{natAt}
 use Rattle.tables.specs.Definitions.Rows.{flat}
 use Rattle.tables.specs.Laws.Rows.{flat-append}
 use Rattle.player.specs.Definitions.Text.{bytes, field, Written}
+use Rattle.player.specs.Definitions.Lines.{shortLine}
 use Rattle.player.specs.Laws.Text.{written-none, written-then, written-as}
-use Rattle.reader.specs.Definitions.{nth}
-use Rattle.nodes.specs.Definitions.{sign, position, nodeLine}
+use Rattle.reader.specs.Definitions.{nth, numbered, readable}
+use Rattle.nodes.specs.Definitions.{sign, position, nodeLine, answerLine, tableIn, listing}
 
 -- A sign by its test.
 sign-minus : (z : ℤ) → ltZ z (pos 0) ≡ true → sign z ≡ bytes " -"
@@ -69,3 +72,17 @@ module _ (A : List Node) (t : List ℕ) (at : ℕ) where
 
   pub lines-full : (t₁ : List ℕ) (e k : ℕ) → length A ≤ k → Written t at (flat nodeLine (take k A)) t₁ e → Written t at (flat nodeLine A) t₁ e
   lines-full t₁ e k n f = written-as t _ _ t₁ at e (ap (flat nodeLine) (take-all k A n)) f
+
+-- The whole text.
+module _ (input : List ℕ) where
+  pub listing-short : length input < numberSize → shortLine ≡ listing input
+  unfolding listing
+  listing-short h = rw (lt-ltb (length input) numberSize h)
+
+  whole : numberSize ≤ length input → flat nodeLine (readable (tableIn input)) ++ answerLine (numbered (natAt numberSize input 0) (readable (tableIn input))) ≡ listing input
+  unfolding listing
+  whole h = rw (le-ltb (length input) numberSize h)
+
+  pub listing-whole : (t : List ℕ) (n : ℕ) → numberSize ≤ length input → t ≡ tableIn input → n ≡ natAt numberSize input 0
+      → flat nodeLine (readable t) ++ answerLine (numbered n (readable t)) ≡ listing input
+  listing-whole t n h e f = ap₂ (λ (u : List ℕ) (m : ℕ). flat nodeLine (readable u) ++ answerLine (numbered m (readable u))) e f ∙ whole h
