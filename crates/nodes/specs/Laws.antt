@@ -79,7 +79,7 @@ module _ (input : List ℕ) where
   unfolding listing
   listing-short h = rw (lt-ltb (length input) numberSize h)
 
-  whole : numberSize ≤ length input → flat nodeLine (readable (tableIn input)) ++ answerLine (numbered (natAt numberSize input 0) (readable (tableIn input))) ≡ listing input
+  pub whole : numberSize ≤ length input → flat nodeLine (readable (tableIn input)) ++ answerLine (numbered (natAt numberSize input 0) (readable (tableIn input))) ≡ listing input
   unfolding listing
   whole h = rw (le-ltb (length input) numberSize h)
 

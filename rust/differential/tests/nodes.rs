@@ -134,7 +134,13 @@ fn wrong_lengths() {
         assert_eq!(NODES.run(&input(number, &table)), "none\n");
         compare("a wrong length", number, &table);
     }
-    for length in [0, NODE_BYTES, TABLE_BYTES - 1, TABLE_BYTES + 1, 10 * TABLE_BYTES] {
+    for length in [
+        0,
+        NODE_BYTES,
+        TABLE_BYTES - 1,
+        TABLE_BYTES + 1,
+        10 * TABLE_BYTES,
+    ] {
         compare("zeros", 1, &vec![0; length]);
     }
     // Too short for the number.
