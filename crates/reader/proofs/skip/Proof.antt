@@ -15,14 +15,13 @@ use prog.Memory.{Memory}
 use prog.Routine.{Routine}
 use prog.Wp.{Heap, Calls, Loops, WpFn, Tables}
 use ghost.Atoms.{Atoms, sem}
-use contract.Lifetimes.{Lfts}
 use contract.Monad.{Fun, fact}
 use contract.Running.{givenOf, tables, tablesOf}
 use types.Kit.{Given, ‵, raw, _⊛_, some, later, _$_, _∵_, !, qed, by, move, drop, use1, split, join, rewrite, pick, fsplit, fjoin, suffices, frame, await, done}
 use types.Part.{whole, sub, look-in, agg}
 use types.Run.{look, init, forget, stop, fld, from, load, of-opd, and-then, no-more, assigns, land, returns, enter, alloc1, alloc0, params1, pass1, pass0, free1, free0}
 use sound.WpLaws.{FmC, fmOf, WpFn-mono}
-use denote.RattleType.{RattleType, owns}
+use denote.RattleType.{owns}
 use denote.Laws.{Is, shows}
 use denote.Plain.{uint-vals, uint-tells, uint-makes, uint-lawful}
 use denote.Builtin.{usize}
@@ -42,6 +41,7 @@ use Rattle.reader.specs.Definitions.{rowAfter}
 use Rattle.reader.specs.declared.Reader.{Reader}
 use Rattle.reader.proofs.Reader as T
 use Rattle.reader.proofs.Reader.Laws as T′
+use Rattle.reader.proofs.Held.{B}
 use Rattle.reader.proofs.row_after as after
 use Rattle.reader.proofs.row_after.Symbol as after-def
 use Rattle.reader.proofs.row_after.Symbol.{name as #reader·row-after}
@@ -50,10 +50,6 @@ use Rattle.reader.proofs.skip.Key.{name as #reader·skip}
 use Rattle.reader.proofs.skip as skip
 use Rattle.reader.proofs.skip.Statement as stated
 use Rattle.reader.proofs.skip.Code as code
-
--- the struct's type, over the signature's lifetimes
-abbrev B : Lfts 1 → RattleType
-B κs = T.the-row (namedLft 1 0 tt κs)
 
 abbrev stayed : Stays (skip.ended .signature .params) (skip.ended .kept)
 stayed = (stay-none B yes, (stay-none (λ _. usize) yes, tt))
