@@ -6,10 +6,10 @@ ghost use Rattle.tables.specs.Definitions.Sizes.{listSize};
 ghost use Rattle.player.specs.Definitions.Text.{Written};
 ghost use Rattle.player.specs.Definitions.Transcript.{loadLines, transcript, inputRoom, textRoom};
 
-mod lines;
+pub mod lines;
 mod links;
 mod play;
-mod text;
+pub mod text;
 
 use lines::LINE;
 use lines::VALUES;

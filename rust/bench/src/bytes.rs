@@ -18,10 +18,98 @@ impl Node {
         across.pow(2) as u32 + up.pow(2) as u32
     }
 
+    fn read(row: &[u8]) -> Node {
+        Node {
+            number: u16_at(row, 0),
+            x: i32::from(u16_at(row, 2) as i16),
+            y: i32::from(u16_at(row, 4) as i16),
+            left: u16_at(row, 6),
+        }
+    }
+
     fn in_range(&self) -> bool {
         let field = POSITION_MIN as i32..=POSITION_MAX as i32;
         let capacities = CAPACITY_MIN as u16..=CAPACITY_MAX as u16;
         field.contains(&self.x) && field.contains(&self.y) && capacities.contains(&self.left)
+    }
+}
+
+fn u16_at(row: &[u8], at: usize) -> u16 {
+    u16::from_le_bytes([row[at], row[at + 1]])
+}
+
+/// Places in a table by number: chains of places whose numbers share a slot.
+struct Index {
+    /// An entry is a place plus 1; 0 ends a chain.
+    heads: Vec<u16>,
+    nexts: Vec<u16>,
+}
+
+const SLOT_BITS: u32 = 10;
+
+/// The upper bits of a product by the golden ratio spread numbers that follow each other.
+fn slot(number: u16) -> usize {
+    (u32::from(number).wrapping_mul(0x9e37_79b9) >> (u32::BITS - SLOT_BITS)) as usize
+}
+
+/// The nodes of a table in row order, each found by its number.
+pub struct Master {
+    pub nodes: Vec<Node>,
+    index: Index,
+}
+
+impl Default for Master {
+    fn default() -> Master {
+        Master {
+            nodes: Vec::with_capacity(TABLE_ROWS),
+            index: Index {
+                heads: vec![0; 1 << SLOT_BITS],
+                nexts: vec![0; TABLE_ROWS],
+            },
+        }
+    }
+}
+
+impl Master {
+    /// Puts the nodes of a table of the stated length in the place of those before; or gives the first faulty row.
+    pub fn read(&mut self, table: &[u8]) -> Result<(), usize> {
+        self.nodes.clear();
+        self.index.heads.fill(0);
+        for row in table.chunks_exact(NODE_BYTES) {
+            let node = Node::read(row);
+            if node.number == 0 {
+                break;
+            }
+            if !node.in_range() || self.row_of(node.number).is_some() {
+                return Err(self.nodes.len());
+            }
+            self.add(node);
+        }
+        let nodes = self.nodes.len();
+        let mut rest = table[nodes * NODE_BYTES..].chunks_exact(NODE_BYTES);
+        match rest.position(|row| row != [0; NODE_BYTES]) {
+            Some(row) => Err(nodes + row),
+            None => Ok(()),
+        }
+    }
+
+    fn add(&mut self, node: Node) {
+        let (place, head) = (self.nodes.len(), slot(node.number));
+        self.index.nexts[place] = self.index.heads[head];
+        self.index.heads[head] = place as u16 + 1;
+        self.nodes.push(node);
+    }
+
+    pub fn row_of(&self, number: u16) -> Option<usize> {
+        let mut entry = self.index.heads[slot(number)];
+        while entry != 0 {
+            let place = usize::from(entry) - 1;
+            if self.nodes[place].number == number {
+                return Some(place);
+            }
+            entry = self.index.nexts[place];
+        }
+        None
     }
 }
 
@@ -34,58 +122,57 @@ pub fn link(a: &Node, b: &Node, amount: u16) -> Link {
     (key, amount)
 }
 
-/// Reads tables; keeps its bitmap of numbers between them.
-pub struct Reader {
-    seen: Vec<u64>,
+/// The squared distance, the A number and the B number of a link.
+pub fn parts((key, _): Link) -> (u32, u16, u16) {
+    ((key >> 32) as u32, (key >> 16) as u16, key as u16)
 }
 
-impl Default for Reader {
-    fn default() -> Reader {
-        let seen = vec![0; (NUMBER_MAX as usize + 1) / 64];
-        Reader { seen }
+pub fn link_of(row: &[u8]) -> Link {
+    let distance = u32::from(u16_at(row, 6)) << 16 | u32::from(u16_at(row, 4));
+    let numbers = u64::from(u16_at(row, 0)) << 16 | u64::from(u16_at(row, 2));
+    (u64::from(distance) << 32 | numbers, u16_at(row, 8))
+}
+
+fn row_of((key, amount): Link) -> [u8; LINK_BYTES] {
+    let [b0, b1, a0, a1, d0, d1, d2, d3] = key.to_le_bytes();
+    let [m0, m1] = amount.to_le_bytes();
+    [a0, a1, b0, b1, d0, d1, d2, d3, m0, m1]
+}
+
+/// Rows of a list that have links, as long as these stand first.
+pub fn rows(list: &[u8]) -> impl Iterator<Item = Link> + '_ {
+    let links = list.chunks_exact(LINK_BYTES).map(link_of);
+    links.take_while(|link| parts(*link).1 != 0)
+}
+
+/// How many leading links the list and these have in common.
+pub fn common(list: &[u8], links: &[Link]) -> usize {
+    let rows = list.chunks_exact(LINK_BYTES).zip(links);
+    rows.take_while(|(row, link)| **row == row_of(**link))
+        .count()
+}
+
+/// The first row in which the list differs from that of the links.
+pub fn difference(list: &[u8], links: &[Link]) -> Option<usize> {
+    let same = common(list, links);
+    if same < links.len() {
+        return Some(same);
     }
+    let mut rest = list[same * LINK_BYTES..].chunks_exact(LINK_BYTES);
+    let stray = rest.position(|row| row != [0; LINK_BYTES]);
+    stray.map(|row| same + row)
 }
 
-impl Reader {
-    /// Puts the nodes of a table in the place of those given; none if it is refused.
-    pub fn read(&mut self, table: &[u8], nodes: &mut Vec<Node>) -> Option<()> {
-        nodes.clear();
-        self.seen.fill(0);
-        if table.len() != TABLE_BYTES {
-            return None;
-        }
-        for row in table.chunks_exact(NODE_BYTES) {
-            let field = |at: usize| u16::from_le_bytes([row[at], row[at + 1]]);
-            let node = Node {
-                number: field(0),
-                x: i32::from(field(2) as i16),
-                y: i32::from(field(4) as i16),
-                left: field(6),
-            };
-            if node.number == 0 {
-                break;
-            }
-            let (word, bit) = (usize::from(node.number) / 64, 1 << (node.number % 64));
-            if !node.in_range() || self.seen[word] & bit != 0 {
-                return None;
-            }
-            self.seen[word] |= bit;
-            nodes.push(node);
-        }
-        let rest = &table[nodes.len() * NODE_BYTES..];
-        rest.iter().all(|&byte| byte == 0).then_some(())
-    }
+pub fn write_row(list: &mut [u8], row: usize, link: Link) {
+    list[row * LINK_BYTES..(row + 1) * LINK_BYTES].copy_from_slice(&row_of(link));
 }
 
-/// Writes the links, then zeros, and gives the number of links.
-pub fn write_list(links: &[Link], list: &mut [u8]) -> u32 {
+/// Writes the links from this one on into their rows, then zeros.
+pub fn write_from(list: &mut [u8], links: &[Link], from: usize) {
     let (rows, rest) = list.split_at_mut(links.len() * LINK_BYTES);
-    for (row, (key, amount)) in rows.chunks_exact_mut(LINK_BYTES).zip(links) {
-        let [b0, b1, a0, a1, distance @ ..] = key.to_le_bytes();
-        row[..4].copy_from_slice(&[a0, a1, b0, b1]);
-        row[4..8].copy_from_slice(&distance);
-        row[8..].copy_from_slice(&amount.to_le_bytes());
+    let rows = rows.chunks_exact_mut(LINK_BYTES).zip(links).skip(from);
+    for (row, link) in rows {
+        row.copy_from_slice(&row_of(*link));
     }
     rest.fill(0);
-    links.len() as u32
 }

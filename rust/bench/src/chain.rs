@@ -1,13 +1,11 @@
-//! The second peer: the nearest-neighbour chain in plain safe Rust.
+//! The join of the same method: the nearest-neighbour chain in plain safe Rust.
 //!
 //! A stack of nodes, by turns of A and of B, each the nearest open partner of the
 //! one beneath it. Where the nearest partner of the top is the node beneath it, the
 //! two are each other's nearest and so a link of the join. What is left of the
 //! stack stays true, since partners only ever go away; it is never built anew.
 
-use model::sizes::LIST_BYTES;
-
-use crate::bytes::{link, write_list, Link, Node, Reader};
+use crate::bytes::{link, Link, Master, Node};
 
 /// The nodes of a master, and where the open ones stand.
 #[derive(Default)]
@@ -21,7 +19,9 @@ struct Side {
 }
 
 impl Side {
-    fn number_rows(&mut self) {
+    fn open(&mut self, nodes: &[Node]) {
+        self.open.clear();
+        self.open.extend(nodes);
         self.rows.clear();
         self.rows.extend(0..self.open.len() as u16);
         self.places.clone_from(&self.rows);
@@ -67,32 +67,23 @@ impl Side {
 
 #[derive(Default)]
 pub struct Chain {
-    reader: Reader,
     /// A, then B.
     sides: [Side; 2],
     /// Rows; those at even places are of A.
     stack: Vec<u16>,
-    links: Vec<Link>,
 }
 
 impl Chain {
-    pub fn join(&mut self, a: &[u8], b: &[u8], list: &mut [u8]) -> u32 {
-        let [side_a, side_b] = &mut self.sides;
-        let accepted = list.len() == LIST_BYTES
-            && self.reader.read(a, &mut side_a.open).is_some()
-            && self.reader.read(b, &mut side_b.open).is_some();
-        if !accepted {
-            return 0;
+    pub fn join(&mut self, masters: &[Master; 2], links: &mut Vec<Link>) {
+        for (side, master) in self.sides.iter_mut().zip(masters) {
+            side.open(&master.nodes);
         }
-        side_a.number_rows();
-        side_b.number_rows();
-        self.take_links();
-        self.links.sort_unstable();
-        write_list(&self.links, list)
+        links.clear();
+        self.take_links(links);
+        links.sort_unstable();
     }
 
-    fn take_links(&mut self) {
-        self.links.clear();
+    fn take_links(&mut self, links: &mut Vec<Link>) {
         self.stack.clear();
         while self.sides.iter().all(|side| !side.open.is_empty()) {
             let Some(&top) = self.stack.last() else {
@@ -103,7 +94,9 @@ impl Chain {
             let from = *self.sides[side].node(top);
             let nearest = self.sides[1 - side].nearest(&from);
             match self.stack[..] {
-                [.., beneath, _] if beneath == nearest => self.link_top(side, top, beneath),
+                [.., beneath, _] if beneath == nearest => {
+                    links.push(self.link_top(side, top, beneath));
+                }
                 _ => self.stack.push(nearest),
             }
         }
@@ -111,18 +104,19 @@ impl Chain {
 
     /// Links the top and the node beneath it. A used-up node goes from the stack
     /// with all above it; the node then on top has lost its nearest partner.
-    fn link_top(&mut self, side: usize, top: u16, beneath: u16) {
+    fn link_top(&mut self, side: usize, top: u16, beneath: u16) -> Link {
         let ends = [
             *self.sides[side].node(top),
             *self.sides[1 - side].node(beneath),
         ];
         let amount = ends[0].left.min(ends[1].left);
         let [a, b] = [&ends[side], &ends[1 - side]];
-        self.links.push(link(a, b, amount));
+        let taken = link(a, b, amount);
         self.sides[side].take(top, amount);
         self.stack.pop();
         if self.sides[1 - side].take(beneath, amount) {
             self.stack.pop();
         }
+        taken
     }
 }

@@ -1,15 +1,27 @@
-//! The engine's join timed beside two peers that do the same work.
+//! The engine's calls timed beside two peers that do the same work.
 //!
-//! - [`shapes`]: the eight families of drawings that are timed.
+//! - [`shapes`]: the families of drawings that are timed.
+//! - [`cases`]: the calls that are timed, and what they are lent.
+//! - [`calls`]: a set of the five calls; [`archive`] is the engine's.
+//! - [`peer`]: the five calls in safe Rust, over a method of joining and checking.
+//! - [`chain`], [`check`]: the engine's own method, once more.
+//! - [`sorted`]: the plain way, all pairs sorted, to check a list and to make one.
 //! - [`bytes`]: tables to nodes and links to a list, as both peers do it.
-//! - [`sorted`]: the first peer, all pairs sorted.
-//! - [`chain`]: the second peer, the nearest-neighbour chain.
-//! - [`measure`]: the three joins by turns on the same drawings, timed and compared.
-//! - [`report`]: the table of times and its summary.
+//! - [`measure`]: the three by turns on the same calls, timed by [`clock`] and compared.
+//! - [`count`]: the instructions of one fixed case.
+//! - [`report`], [`aims`]: the tables, and what was to be reached.
 
+pub mod aims;
+pub mod archive;
 pub mod bytes;
+pub mod calls;
+pub mod cases;
 pub mod chain;
+pub mod check;
+pub mod clock;
+pub mod count;
 pub mod measure;
+pub mod peer;
 pub mod report;
 pub mod shapes;
 pub mod sorted;

@@ -1,15 +1,24 @@
-//! Times the engine's join beside its two peers and prints the table.
+//! Times the engine's calls beside their peers and prints the tables. ONLY=text picks the calls with that text in
+//! their name; a run of all calls also writes its tables and lines to target/bench, where tools/chart finds them.
 
+use std::env;
+use std::fs;
+use std::path::Path;
 use std::process::ExitCode;
 
-use bench::measure::Bench;
-use bench::report::{columns, heading, summary};
-use bench::shapes::SHAPES;
-use model::generate::drawing::CAPACITIES;
-
-const COUNTS: [usize; 4] = [64, 128, 256, 512];
+use bench::aims::aims;
+use bench::cases::{Call, CALLS};
+use bench::count;
+use bench::measure::{Bench, Line};
+use bench::report::*;
+use bench::shapes::Class;
 
 fn main() -> ExitCode {
+    let words: Vec<String> = env::args().skip(1).collect();
+    if let Some((call, caller)) = count::asked(&words) {
+        count::run(call, caller);
+        return ExitCode::SUCCESS;
+    }
     match run() {
         Ok(()) => ExitCode::SUCCESS,
         Err(why) => {
@@ -20,18 +29,79 @@ fn main() -> ExitCode {
 }
 
 fn run() -> Result<(), String> {
-    println!("{}\n\n{}", heading(), columns());
+    let only = env::var("ONLY").unwrap_or_default().to_lowercase();
+    let calls = Call::named(&only);
+    if calls.is_empty() {
+        let names = CALLS.map(Call::name).join("; ");
+        return Err(format!("no call has {only:?} in its name: {names}"));
+    }
+    println!("{}\n", heading());
+    let lines = measure(&calls)?;
+    let tables = tables(&lines, &calls);
+    print!("{tables}");
+    if calls.len() == CALLS.len() {
+        write("tables.md", &tables)?;
+        write("lines.tsv", &lines_text(&lines))?;
+    }
+    Ok(())
+}
+
+fn measure(calls: &[Call]) -> Result<Vec<Line>, String> {
     let mut bench = Bench::default();
-    let mut all = Vec::new();
-    for shape in SHAPES {
-        for count in COUNTS {
-            for capacities in CAPACITIES {
-                let times = bench.measure(shape, count, capacities)?;
-                println!("{times}");
-                all.push(times);
-            }
+    let mut lines = Vec::new();
+    let mut family = "";
+    for group in Class::groups() {
+        if group[0].shape.name() != family {
+            family = group[0].shape.name();
+            eprintln!("bench: {family}");
+        }
+        for call in calls {
+            lines.extend(bench.measure(&group, *call)?);
         }
     }
-    println!("\n{}", summary(&all, 512).ok_or("nothing was timed")?);
-    Ok(())
+    Ok(lines)
+}
+
+fn tables(lines: &[Line], calls: &[Call]) -> String {
+    let counted = match count::instructions(calls) {
+        Ok(counts) => instructions(&counts),
+        Err(why) => format!("Not counted: {why}\n"),
+    };
+    let class = &count::CLASS;
+    let (family, capacities) = (class.shape.name(), capacities_name(class.capacities));
+    let counted_on = format!(
+        "Thousands of instructions at 512 nodes a side ({family}, capacities {capacities}, by callgrind)"
+    );
+    let tables = [
+        ("Aims", aims(lines)),
+        (
+            "By call, at 512 nodes a side, over all families and capacities",
+            by_call(lines),
+        ),
+        (
+            "The longest edit by family, at 512 nodes a side and on glyphs' outlines",
+            by_family(lines),
+        ),
+        (
+            "By nodes a side: the engine's median in the slowest family, µs",
+            by_size(lines),
+        ),
+        (&counted_on, counted),
+    ];
+    let full = tables
+        .into_iter()
+        .filter(|(_, table)| table.lines().count() != 2);
+    let texts = full.filter(|(_, table)| !table.is_empty());
+    let texts: Vec<String> = texts
+        .map(|(name, table)| format!("**{name}**\n\n{table}"))
+        .collect();
+    texts.join("\n")
+}
+
+fn write(name: &str, text: &str) -> Result<(), String> {
+    let folder = Path::new(env!("CARGO_MANIFEST_DIR")).join("../../target/bench");
+    let path = folder.join(name);
+    fs::create_dir_all(&folder)
+        .and_then(|()| fs::write(&path, text))
+        .map_err(|why| format!("{}: {why}", path.display()))
 }

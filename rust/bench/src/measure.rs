@@ -1,120 +1,143 @@
-//! The three joins by turns on the same drawings: timed, and their lists compared.
+//! The engine and its peers by turns on the same calls: timed, and every answer and byte compared.
 
-use std::time::{Duration, Instant};
-
-use model::generate::drawing::Capacities;
+use model::engine::Buffers;
 use model::generate::random::Random;
-use model::sizes::LIST_BYTES;
 
-use crate::chain::Chain;
-use crate::shapes::{Drawing, Shape};
+use crate::archive::Archive;
+use crate::calls::Calls;
+use crate::cases::{Call, Case};
+use crate::clock::now;
+use crate::peer::{Peer, Same};
+use crate::shapes::{Class, DRAWINGS};
 use crate::sorted::Sorted;
 
-/// Unlike drawings of each class, so that no join learns one by heart.
-pub const DRAWINGS: usize = 5;
-/// Times that each join goes over them, after one time that is not counted.
+/// Times that each goes over the drawings, after one time that is not counted.
 pub const ROUNDS: usize = 15;
+/// The plain way takes part in one round of so many: it takes the longest.
+pub const PLAIN_EVERY: usize = 5;
 
-/// The times of the joins on one class of drawings.
+/// Microseconds of one call on the drawings of a class.
 #[derive(Clone, Copy, Debug)]
-pub struct Times {
-    pub shape: Shape,
-    pub count: usize,
-    pub capacities: Capacities,
-    pub engine: Duration,
-    pub engine_worst: Duration,
-    pub sorted: Duration,
-    pub chain: Duration,
+pub struct Line {
+    pub class: Class,
+    pub call: Call,
+    pub engine: f64,
+    pub engine_worst: f64,
+    pub same: f64,
+    pub plain: f64,
 }
 
-impl Times {
-    pub fn sorted_by_engine(&self) -> f64 {
-        self.sorted.as_secs_f64() / self.engine.as_secs_f64()
+impl Line {
+    pub fn by_same(&self) -> f64 {
+        self.engine / self.same
     }
 
-    pub fn engine_by_chain(&self) -> f64 {
-        self.engine.as_secs_f64() / self.chain.as_secs_f64()
+    pub fn plain_by(&self) -> f64 {
+        self.plain / self.engine
     }
 }
 
-/// The joins, and a list for each, which is not cleared between runs.
+/// A call on the drawings of a class, and the times of the three callers.
+struct Lot {
+    class: Class,
+    cases: Vec<Case>,
+    times: [Vec<f64>; 3],
+}
+
+impl Lot {
+    fn new(class: Class, call: Call) -> Lot {
+        let case = |(seed, drawing)| Case::new(&mut Random::new(seed), &drawing, call);
+        Lot {
+            class,
+            cases: (0..).zip(class.drawings()).map(case).collect(),
+            times: [(); 3].map(|()| Vec::with_capacity(ROUNDS * DRAWINGS)),
+        }
+    }
+
+    fn line(mut self, call: Call) -> Line {
+        for times in &mut self.times {
+            times.sort_by(f64::total_cmp);
+        }
+        let [engine, same, plain] = self.times.each_ref().map(|times| times[times.len() / 2]);
+        Line {
+            class: self.class,
+            call,
+            engine,
+            engine_worst: self.times[0][self.times[0].len() - 1],
+            same,
+            plain,
+        }
+    }
+}
+
+const NAMES: [&str; 3] = ["the engine", "the same method", "the plain way"];
+
 pub struct Bench {
-    sorted: Sorted,
-    chain: Chain,
-    lists: [Vec<u8>; 3],
+    /// The engine, the same method, the plain way.
+    callers: [Box<dyn Calls>; 3],
 }
 
 impl Default for Bench {
     fn default() -> Bench {
-        Bench {
-            sorted: Sorted::default(),
-            chain: Chain::default(),
-            lists: [0; 3].map(|byte| vec![byte; LIST_BYTES]),
-        }
+        let (same, plain) = (Peer::<Same>::default(), Peer::<Sorted>::default());
+        Bench::new([Box::new(Archive), Box::new(same), Box::new(plain)])
     }
 }
 
 impl Bench {
-    /// Times the joins on drawings of a class; an error if two of them differ.
-    pub fn measure(
-        &mut self,
-        shape: Shape,
-        count: usize,
-        capacities: Capacities,
-    ) -> Result<Times, String> {
-        let tables: Vec<(Vec<u8>, Vec<u8>)> = (0..DRAWINGS as u64)
-            .map(|seed| Drawing::new(&mut Random::new(seed), shape, count, capacities).tables())
-            .collect();
-        let mut times = [(); 3].map(|()| Vec::with_capacity(ROUNDS * DRAWINGS));
+    pub fn new(callers: [Box<dyn Calls>; 3]) -> Bench {
+        Bench { callers }
+    }
+
+    /// Times a call on drawings of some classes, by turns, so that a busy moment falls on all of them;
+    /// an error if two of the three callers differ.
+    pub fn measure(&mut self, classes: &[Class], call: Call) -> Result<Vec<Line>, String> {
+        let mut lots: Vec<Lot> = classes.iter().map(|class| Lot::new(*class, call)).collect();
         for round in 0..=ROUNDS {
-            for (seed, (a, b)) in tables.iter().enumerate() {
-                let differ = |what: &str| {
-                    format!("{what} differ: {shape:?} n {count} {capacities:?} seed {seed}")
-                };
-                let run = self.run(round + seed, a, b).map_err(differ)?;
-                if round > 0 {
-                    for (times, time) in times.iter_mut().zip(run) {
-                        times.push(time);
+            let callers = if round % PLAIN_EVERY == 0 { 3 } else { 2 };
+            for lot in &mut lots {
+                for (seed, case) in lot.cases.iter().enumerate() {
+                    let differ =
+                        |what| format!("{what} differ: {call:?} {:?} seed {seed}", lot.class);
+                    let run = self.run(round + seed, callers, case).map_err(differ)?;
+                    for (which, time) in run.into_iter().filter(|_| round > 0) {
+                        lot.times[which].push(time);
                     }
                 }
             }
         }
-        times.iter_mut().for_each(|times| times.sort_unstable());
-        let [engine, sorted, chain] = times.each_ref().map(|times| times[times.len() / 2]);
-        Ok(Times {
-            shape,
-            count,
-            capacities,
-            engine,
-            engine_worst: times[0][times[0].len() - 1],
-            sorted,
-            chain,
-        })
+        Ok(lots.into_iter().map(|lot| lot.line(call)).collect())
     }
 
-    /// Times each join once on the same tables. Six turns on end bring all six
-    /// orders, so that each join finds the caches as each other one left them.
-    fn run(&mut self, turn: usize, a: &[u8], b: &[u8]) -> Result<[Duration; 3], &'static str> {
-        let [by_engine, by_sorted, by_chain] = &mut self.lists;
-        let joins: [&mut dyn FnMut() -> u32; 3] = [
-            &mut || differential::pair(a, b, by_engine),
-            &mut || self.sorted.join(a, b, by_sorted),
-            &mut || self.chain.join(a, b, by_chain),
-        ];
-        let mut links = [0; 3];
-        let mut times = [Duration::ZERO; 3];
-        let step = 1 + turn / 3 % 2;
-        for which in (0..3).map(|place| (turn + place * step) % 3) {
-            let start = Instant::now();
-            links[which] = joins[which]();
-            times[which] = start.elapsed();
-        }
-        if links[1] != links[2] || by_sorted != by_chain {
-            return Err("the two peers");
-        }
-        if links[0] != links[1] || by_engine != by_sorted {
-            return Err("the engine and its peers");
+    /// Times each of the callers once, on buffers of its own; the turn decides in which order.
+    fn run(
+        &mut self,
+        turn: usize,
+        callers: usize,
+        case: &Case,
+    ) -> Result<Vec<(usize, f64)>, String> {
+        let mut times = Vec::with_capacity(callers);
+        let mut first: Option<(usize, u32, Buffers)> = None;
+        let step = 1 + turn / callers % (callers - 1);
+        for which in (0..callers).map(|place| (turn + place * step) % callers) {
+            let mut lent = case.lent.clone();
+            let caller = &mut self.callers[which];
+            let start = now();
+            let answer = caller.run(&case.request, &mut lent);
+            times.push((which, now() - start));
+            match &first {
+                None => first = Some((which, answer, lent)),
+                Some((other, said, left)) if (answer, &lent) != (*said, left) => {
+                    return Err(format!("{} and {}", NAMES[*other], NAMES[which]));
+                }
+                Some(_) => {}
+            }
         }
         Ok(times)
+    }
+
+    /// A call by one of the three alone.
+    pub fn call(&mut self, caller: usize, case: &Case, lent: &mut Buffers) -> u32 {
+        self.callers[caller].run(&case.request, lent)
     }
 }

@@ -1,43 +1,30 @@
-//! The table of times and its summary.
+//! The lines as text: all of them for a chart, and the tables that sum them up.
 
-use std::fmt::{Display, Formatter, Result};
-use std::time::Duration;
+use model::generate::drawing::{Capacities, CAPACITIES};
 
-use model::generate::drawing::Capacities;
+use crate::cases::{Call, CALLS, EDITS};
+use crate::measure::{Line, PLAIN_EVERY, ROUNDS};
+use crate::shapes::{Class, Count, Shape, COUNTS, DRAWINGS, GLYPH_NODES, SHAPES};
 
-use crate::measure::{Times, DRAWINGS, ROUNDS};
-use crate::shapes::Shape;
+/// The size that the aims and most tables are about, and the one that growth is counted from.
+pub const FULL: Count = Count::Each(512);
+pub const HALF: Count = Count::Each(256);
 
 /// What the figures are of.
 pub fn heading() -> String {
     format!(
-        "One join each, by turns, from the bytes of two tables to the bytes of the list: both tables\n\
-         read and checked, the links found and put in pair order, the whole list written. The three\n\
-         lists are compared byte by byte after every run. Medians in microseconds over {} runs a line,\n\
-         {DRAWINGS} drawings {ROUNDS} times; one more time over them goes ahead and is not counted.\n\
-         Buffers are not cleared between runs; the worst has the machine's interruptions in it.\n\
-         sorted: all pairs as integers, sort_unstable. chain: the nearest-neighbour chain in safe Rust.",
-        DRAWINGS * ROUNDS
+        "Whole calls through the archive, by turns with two peers in safe Rust; after each turn every answer and every\n\
+         lent byte is compared. `same` is the engine's method: the lent list is checked without a join, and the new one is\n\
+         made by the chain. `plain` sorts all pairs, once to check the lent list and once for the new one.\n\
+         Processor time of the calling thread: medians over {} calls, {DRAWINGS} drawings {ROUNDS} times ({} for `plain`), after\n\
+         one time that is not counted. `worst` is the engine's longest call. Each call gets fresh copies of its buffers, not\n\
+         timed; nothing else is cleared: the peers keep their own memory, and caches stay warm.",
+        DRAWINGS * ROUNDS,
+        DRAWINGS * ROUNDS / PLAIN_EVERY
     )
 }
 
-/// The heads of the columns of [`Times`] as text.
-pub fn columns() -> String {
-    format!(
-        "{:<24}{:>4}{:>7}{:>11}{:>14}{:>11}{:>11}{:>15}{:>14}",
-        "family",
-        "n",
-        "cap",
-        "engine",
-        "engine worst",
-        "sorted",
-        "chain",
-        "sorted/engine",
-        "engine/chain"
-    )
-}
-
-fn capacities_name(capacities: Capacities) -> &'static str {
+pub fn capacities_name(capacities: Capacities) -> &'static str {
     match capacities {
         Capacities::One => "1",
         Capacities::Few => "to 4",
@@ -45,56 +32,212 @@ fn capacities_name(capacities: Capacities) -> &'static str {
     }
 }
 
-fn micros(time: Duration) -> f64 {
-    time.as_secs_f64() * 1e6
-}
-
-impl Display for Times {
-    fn fmt(&self, out: &mut Formatter<'_>) -> Result {
-        let (family, capacities) = (self.shape.name(), capacities_name(self.capacities));
-        write!(out, "{family:<24}{:>4}{capacities:>7}", self.count)?;
-        let [engine, worst] = [self.engine, self.engine_worst].map(micros);
-        let [sorted, chain] = [self.sorted, self.chain].map(micros);
-        write!(
-            out,
-            "{engine:>11.1}{worst:>14.1}{sorted:>11.1}{chain:>11.1}"
-        )?;
-        write!(out, "{:>15.2}", self.sorted_by_engine())?;
-        write!(out, "{:>14.2}", self.engine_by_chain())
+fn count_name(count: Count) -> String {
+    match count {
+        Count::Each(count) => count.to_string(),
+        Count::Glyph => format!("{} to {}", GLYPH_NODES.start(), GLYPH_NODES.end()),
     }
 }
 
-/// The extremes of the ratios among the lines of so many nodes; none without lines.
-pub fn summary(times: &[Times], count: usize) -> Option<String> {
-    let lines: Vec<&Times> = times.iter().filter(|line| line.count == count).collect();
-    let by_uniform = |line: &Times| {
-        let same =
-            |other: &&&Times| other.shape == Shape::Uniform && other.capacities == line.capacities;
-        let uniform = lines.iter().find(same).map(|uniform| uniform.engine);
-        uniform.map_or(f64::NAN, |uniform| micros(line.engine) / micros(uniform))
+/// Where a line stands, in words.
+pub fn place(line: &Line) -> String {
+    let Class {
+        shape, capacities, ..
+    } = line.class;
+    let (name, capacities) = (shape.name(), capacities_name(capacities));
+    format!("{}: {name}, capacities {capacities}", line.call.name())
+}
+
+/// A whole number with its thousands set apart.
+pub fn whole(number: f64) -> String {
+    let digits = format!("{number:.0}");
+    let mut text = String::new();
+    for (place, digit) in digits.chars().enumerate() {
+        if place > 0 && (digits.len() - place) % 3 == 0 {
+            text.push(',');
+        }
+        text.push(digit);
+    }
+    text
+}
+
+fn ratio(number: f64) -> String {
+    format!("{number:.2}")
+}
+
+/// How many times longer the engine takes than at half the size; none where that was not timed.
+pub fn growth(lines: &[Line], line: &Line) -> Option<f64> {
+    let class = Class {
+        count: HALF,
+        ..line.class
     };
-    let greatest = |ratio: &dyn Fn(&Times) -> f64| {
-        let ratios = lines.iter().map(|line| (ratio(line), *line));
-        ratios.max_by(|one, other| one.0.total_cmp(&other.0))
-    };
-    let (negated, sorted) = greatest(&|line| -line.sorted_by_engine())?;
-    let (chain_ratio, chain) = greatest(&|line| line.engine_by_chain())?;
-    let (uniform_ratio, slowest) = greatest(&by_uniform)?;
-    let place = |line: &Times| {
-        format!(
-            "{}, capacities {}",
-            line.shape.name(),
-            capacities_name(line.capacities)
-        )
-    };
-    Some(format!(
-        "At n = {count}, by medians:\n\
-         least sorted/engine: {:.2} ({})\n\
-         greatest engine/chain: {chain_ratio:.2} ({})\n\
-         greatest engine time over that of uniform with the same capacities: {uniform_ratio:.2} ({})",
-        -negated,
-        place(sorted),
-        place(chain),
-        place(slowest)
-    ))
+    let same = |other: &&Line| other.class == class && other.call == line.call;
+    let half = lines.iter().find(same)?;
+    (line.class.count == FULL).then(|| line.engine / half.engine)
+}
+
+/// All lines with tabs between their fields.
+pub fn lines_text(lines: &[Line]) -> String {
+    let mut text = "family\tnodes\tcapacities\tcall\tengine\tworst\tsame\tplain\n".to_string();
+    for line in lines {
+        let Class {
+            shape,
+            count,
+            capacities,
+        } = line.class;
+        let names = [
+            shape.name(),
+            &count_name(count),
+            capacities_name(capacities),
+            line.call.name(),
+        ];
+        let times = [line.engine, line.engine_worst, line.same, line.plain];
+        let times = times.map(|time| format!("{time:.2}"));
+        text += &format!("{}\t{}\n", names.join("\t"), times.join("\t"));
+    }
+    text
+}
+
+fn row<T: AsRef<str>>(fields: &[T]) -> String {
+    let fields: Vec<&str> = fields.iter().map(AsRef::as_ref).collect();
+    format!("| {} |\n", fields.join(" | "))
+}
+
+fn head(fields: &[&str]) -> String {
+    row(fields) + &row(&vec!["---"; fields.len()])
+}
+
+/// The least and the most of a figure over some lines.
+fn range(lines: &[&Line], text: fn(f64) -> String, figure: impl Fn(&Line) -> f64) -> String {
+    let figures = lines.iter().map(|line| figure(line));
+    let (least, most) = figures.fold((f64::INFINITY, 0.0), |(least, most): (f64, f64), new| {
+        (least.min(new), most.max(new))
+    });
+    match text(least) == text(most) {
+        true => text(least),
+        false => format!("{} to {}", text(least), text(most)),
+    }
+}
+
+fn most(lines: &[&Line], figure: impl Fn(&Line) -> f64) -> f64 {
+    lines.iter().map(|line| figure(line)).fold(0.0, f64::max)
+}
+
+/// A row for each call, over all families and capacities at full size.
+pub fn by_call(lines: &[Line]) -> String {
+    let mut table = head(&[
+        "Call",
+        "engine, µs",
+        "worst, µs",
+        "engine / same",
+        "plain / engine",
+        "512 / 256",
+    ]);
+    for call in CALLS {
+        let of_call = |line: &&Line| line.call == call && line.class.count == FULL;
+        let of_call: Vec<&Line> = lines.iter().filter(of_call).collect();
+        if of_call.is_empty() {
+            continue;
+        }
+        let grown = |line: &Line| growth(lines, line).unwrap_or(f64::NAN);
+        table += &row(&[
+            call.name(),
+            &range(&of_call, whole, |line| line.engine),
+            &whole(most(&of_call, |line| line.engine_worst)),
+            &range(&of_call, ratio, Line::by_same),
+            &range(&of_call, ratio, Line::plain_by),
+            &range(&of_call, ratio, grown),
+        ]);
+    }
+    table
+}
+
+/// A row for each family and its capacities at full size, and for glyphs: the edit that takes longest.
+pub fn by_family(lines: &[Line]) -> String {
+    let mut table = head(&[
+        "Family",
+        "Capacities",
+        "Longest edit",
+        "engine, µs",
+        "worst, µs",
+        "same, µs",
+        "plain, µs",
+        "engine / same",
+        "plain / engine",
+        "512 / 256",
+    ]);
+    for shape in SHAPES.into_iter().chain([Shape::Glyph]) {
+        for capacities in CAPACITIES {
+            let count = if shape == Shape::Glyph {
+                Count::Glyph
+            } else {
+                FULL
+            };
+            let class = Class {
+                shape,
+                count,
+                capacities,
+            };
+            let edits = lines
+                .iter()
+                .filter(|line| line.class == class && EDITS.contains(&line.call));
+            let Some(line) = edits.max_by(|one, other| one.engine.total_cmp(&other.engine)) else {
+                continue;
+            };
+            let kind = line.call.name().trim_start_matches("Edit, ");
+            table += &row(&[
+                shape.name(),
+                capacities_name(capacities),
+                kind,
+                &whole(line.engine),
+                &whole(line.engine_worst),
+                &whole(line.same),
+                &whole(line.plain),
+                &ratio(line.by_same()),
+                &ratio(line.plain_by()),
+                &growth(lines, line).map_or("–".to_string(), ratio),
+            ]);
+        }
+    }
+    table
+}
+
+/// A row for each call: the engine's median in its slowest family, by size.
+pub fn by_size(lines: &[Line]) -> String {
+    let counts = COUNTS.map(Count::Each).into_iter().chain([Count::Glyph]);
+    let counts: Vec<Count> = counts.collect();
+    let names: Vec<String> = counts.iter().map(|count| count_name(*count)).collect();
+    let mut heads = vec!["Call"];
+    heads.extend(names.iter().map(String::as_str));
+    let mut table = head(&heads);
+    for call in CALLS {
+        let times = counts.iter().map(|count| {
+            let of = |line: &&Line| line.call == call && line.class.count == *count;
+            let of: Vec<&Line> = lines.iter().filter(of).collect();
+            most(&of, |line| line.engine)
+        });
+        let times: Vec<f64> = times.collect();
+        if times.iter().all(|time| *time > 0.0) {
+            let mut fields = vec![call.name().to_string()];
+            fields.extend(times.into_iter().map(whole));
+            table += &row(&fields);
+        }
+    }
+    table
+}
+
+/// Instructions of the engine, the same method and the plain way, in thousands.
+pub fn instructions(counts: &[(Call, [u64; 3])]) -> String {
+    let mut table = head(&["Call", "engine", "same", "plain", "engine / same"]);
+    for (call, counts) in counts {
+        let [engine, same, plain] = counts.map(|count| count as f64 / 1e3);
+        table += &row(&[
+            call.name(),
+            &whole(engine),
+            &whole(same),
+            &whole(plain),
+            &ratio(engine / same),
+        ]);
+    }
+    table
 }

@@ -1,7 +1,10 @@
-//! The eight families of drawings that are timed.
+//! The families of drawings that are timed, and their classes by count and capacities.
+
+use std::array;
+use std::ops::RangeInclusive;
 
 use model::buffers::table_of;
-use model::generate::drawing::Capacities;
+use model::generate::drawing::{Capacities, CAPACITIES};
 use model::generate::places::{anywhere, near, places, Family, Place};
 use model::generate::random::Random;
 use model::rows::Node;
@@ -26,8 +29,11 @@ pub enum Shape {
     /// Two clusters in opposite corners, most of the light in one, of the bold
     /// in the other.
     TwoClusters,
+    /// Outlines with as many nodes as a glyph's have, 40 to 150 in each master.
+    Glyph,
 }
 
+/// The families that are drawn with any number of nodes.
 pub const SHAPES: [Shape; 8] = [
     Shape::Uniform,
     Shape::SmallGrid,
@@ -50,10 +56,11 @@ impl Shape {
             Shape::EqualGaps => "line, equal gaps",
             Shape::OnePoint => "one point",
             Shape::TwoClusters => "two far clusters",
+            Shape::Glyph => "glyph outline",
         }
     }
 
-    /// Places of so many nodes of A and as many of B.
+    /// Places of so many nodes of A and as many of B, but for a glyph's.
     fn places(self, random: &mut Random, count: usize) -> (Vec<Place>, Vec<Place>) {
         let grid = |random: &mut Random| (random.signed(0, 7) * 100, random.signed(0, 7) * 100);
         match self {
@@ -67,6 +74,11 @@ impl Shape {
                 (0..count as i64).map(|n| (12_000, 30 * n)).collect(),
             ),
             Shape::Outline => places(random, Family::Outline, count, count),
+            Shape::Glyph => {
+                let (least, most) = (*GLYPH_NODES.start(), *GLYPH_NODES.end());
+                let bold = random.size(count - 8, count + 8).clamp(least, most);
+                places(random, Family::Outline, count, bold)
+            }
             Shape::ShrinkingGaps => by_turns(&shrinking_line(2 * count)),
             Shape::EqualGaps => by_turns(&equal_line(2 * count)),
             Shape::OnePoint => (vec![(321, -123); count], vec![(321, -123); count]),
@@ -114,6 +126,69 @@ fn shrinking_line(count: usize) -> Vec<Place> {
         .collect()
 }
 
+/// Nodes in a master of a glyph's outline.
+pub const GLYPH_NODES: RangeInclusive<usize> = 40..=150;
+
+/// Nodes in each master.
+#[derive(Clone, Copy, Debug, PartialEq, Eq)]
+pub enum Count {
+    Each(usize),
+    /// Those of glyphs: the drawings of a class have them from the least to the most.
+    Glyph,
+}
+
+pub const COUNTS: [usize; 4] = [64, 128, 256, 512];
+
+impl Count {
+    fn of(self, seed: usize) -> usize {
+        match self {
+            Count::Each(count) => count,
+            Count::Glyph => {
+                let (least, most) = (*GLYPH_NODES.start(), *GLYPH_NODES.end());
+                least + (most - least) * seed / (DRAWINGS - 1)
+            }
+        }
+    }
+}
+
+/// Unlike drawings of each class, so that no call learns one by heart.
+pub const DRAWINGS: usize = 5;
+
+#[derive(Clone, Copy, Debug, PartialEq, Eq)]
+pub struct Class {
+    pub shape: Shape,
+    pub count: Count,
+    pub capacities: Capacities,
+}
+
+impl Class {
+    /// All classes that are timed, those together that differ in their count alone.
+    pub fn groups() -> Vec<Vec<Class>> {
+        let sized = SHAPES.map(|shape| (shape, COUNTS.map(Count::Each).to_vec()));
+        let kinds = sized
+            .into_iter()
+            .chain([(Shape::Glyph, vec![Count::Glyph])]);
+        let groups = kinds.flat_map(|(shape, counts)| {
+            CAPACITIES.map(|capacities| {
+                let class = |count: &Count| Class {
+                    shape,
+                    count: *count,
+                    capacities,
+                };
+                counts.iter().map(class).collect()
+            })
+        });
+        groups.collect()
+    }
+
+    pub fn drawings(self) -> [Drawing; DRAWINGS] {
+        array::from_fn(|seed| {
+            let random = &mut Random::new(seed as u64);
+            Drawing::new(random, self.shape, self.count.of(seed), self.capacities)
+        })
+    }
+}
+
 #[derive(Clone, Debug)]
 pub struct Drawing {
     pub a: Vec<Node>,
@@ -121,7 +196,6 @@ pub struct Drawing {
 }
 
 impl Drawing {
-    /// A drawing of so many nodes in each master.
     pub fn new(random: &mut Random, shape: Shape, count: usize, capacities: Capacities) -> Drawing {
         let (a, b) = shape.places(random, count);
         let mut master = |places: &[Place]| master(random, shape, places, capacities);

@@ -1,36 +1,35 @@
-//! The first peer, what a good ordinary programmer writes: all pairs packed into
+//! The plain way, what a good ordinary programmer writes: all pairs packed into
 //! integers, sorted, and passed over once. Every buffer is kept between joins.
 
-use model::sizes::LIST_BYTES;
-
-use crate::bytes::{link, write_list, Link, Node, Reader};
+use crate::bytes::{link, Link, Master, Node};
+use crate::peer::Method;
 
 #[derive(Default)]
 pub struct Sorted {
-    reader: Reader,
     a: Vec<Node>,
     b: Vec<Node>,
     pairs: Vec<u64>,
-    links: Vec<Link>,
 }
 
 /// Bits of a rank: a table has no more nodes than these can count.
 const RANK_BITS: u32 = 9;
 const RANK_MASK: u64 = (1 << RANK_BITS) - 1;
 
-impl Sorted {
-    pub fn join(&mut self, a: &[u8], b: &[u8], list: &mut [u8]) -> u32 {
-        let accepted = list.len() == LIST_BYTES
-            && self.reader.read(a, &mut self.a).is_some()
-            && self.reader.read(b, &mut self.b).is_some();
-        if !accepted {
-            return 0;
-        }
+impl Method for Sorted {
+    fn join(&mut self, [a, b]: &[Master; 2], links: &mut Vec<Link>) {
+        self.a.clone_from(&a.nodes);
+        self.b.clone_from(&b.nodes);
         self.sort_pairs();
-        self.take_pairs();
-        write_list(&self.links, list)
+        self.take_pairs(links);
     }
 
+    /// It knows no other way than to join and compare.
+    fn is_finished(&mut self, _: &[Master; 2], _: &[u8]) -> bool {
+        false
+    }
+}
+
+impl Sorted {
     /// With the nodes in the order of their numbers, ranks settle ties as the
     /// numbers do, and are short enough to pack.
     fn sort_pairs(&mut self) {
@@ -46,10 +45,10 @@ impl Sorted {
         self.pairs.sort_unstable();
     }
 
-    fn take_pairs(&mut self) {
+    fn take_pairs(&mut self, links: &mut Vec<Link>) {
         let sum = |nodes: &[Node]| nodes.iter().map(|node| u32::from(node.left)).sum::<u32>();
         let mut open = sum(&self.a).min(sum(&self.b));
-        self.links.clear();
+        links.clear();
         for pair in &self.pairs {
             if open == 0 {
                 break;
@@ -61,7 +60,7 @@ impl Sorted {
                 a.left -= amount;
                 b.left -= amount;
                 open -= u32::from(amount);
-                self.links.push(link(a, b, amount));
+                links.push(link(a, b, amount));
             }
         }
     }

@@ -2,7 +2,7 @@
 
 use std::collections::BTreeSet;
 
-use bench::shapes::{Drawing, Shape, SHAPES};
+use bench::shapes::{Class, Drawing, Shape, DRAWINGS, GLYPH_NODES, SHAPES};
 use model::buffers::{first_faulty_row, nodes_of};
 use model::generate::drawing::{Capacities, CAPACITIES};
 use model::generate::random::Random;
@@ -127,4 +127,31 @@ fn other_families_are_what_they_say() {
     assert!(upper(&two.a) > FULL * 2 / 3 && upper(&two.b) < FULL / 3 && upper(&two.b) > 0);
     let outer = |node: &Node| node.horizontal.abs() > 14_000 && node.vertical.abs() > 14_000;
     assert!(two.a.iter().chain(&two.b).all(outer));
+}
+
+#[test]
+fn glyphs_have_glyphs_counts() {
+    let classes = Class::groups().concat();
+    let glyphs: Vec<&Class> = classes
+        .iter()
+        .filter(|class| class.shape == Shape::Glyph)
+        .collect();
+    assert_eq!((classes.len(), glyphs.len()), (8 * 4 * 3 + 3, 3));
+    for class in glyphs {
+        let counts = class
+            .drawings()
+            .map(|drawing| [drawing.a.len(), drawing.b.len()]);
+        assert!(
+            counts
+                .iter()
+                .flatten()
+                .all(|count| GLYPH_NODES.contains(count)),
+            "{counts:?}"
+        );
+        assert_eq!((counts[0][0], counts[DRAWINGS - 1][0]), (40, 150));
+        assert!(
+            counts.iter().any(|[a, b]| a != b),
+            "masters are alike: {counts:?}"
+        );
+    }
 }

@@ -13,7 +13,9 @@ use model::replay::replay;
 use model::report::hex;
 use model::rows::{Edit, Node};
 use model::sizes::*;
-use program::{run, run_open, run_slowly};
+use program::Program;
+
+const REPLAY: Program = Program("replay");
 
 fn node(number: u64, horizontal: i64, vertical: i64) -> Node {
     Node::new(number, horizontal, vertical, 1)
@@ -41,7 +43,7 @@ fn e11() -> Vec<u8> {
 }
 
 fn compare(what: &str, input: &[u8]) {
-    let (text, right) = (run(input), replay(input));
+    let (text, right) = (REPLAY.run(input), replay(input));
     assert!(
         text == right,
         "{what}: {}",
@@ -104,7 +106,7 @@ fn e10_full_masters() {
             Edit::arrival(MASTER_A, known),
         ];
         let input = with_edits(tables(&drawing.a, &drawing.b), &edits);
-        let text = run(&input);
+        let text = REPLAY.run(&input);
         let refused: Vec<&str> = text
             .lines()
             .filter(|line| line.contains("refused"))
@@ -119,7 +121,7 @@ fn e10_full_masters() {
 fn e11_text() {
     let text =
         "load 2\nedit 1 kept 0 links 2\nedit 2 kept 1 links 2\nlink 3 1 1 1\nlink 1 2 144 1\n";
-    assert_eq!(run(&e11()), text);
+    assert_eq!(REPLAY.run(&e11()), text);
 }
 
 #[test]
@@ -133,15 +135,15 @@ fn short_inputs() {
         TABLE_BYTES,
         REPLAY_TABLES_BYTES - 1,
     ] {
-        assert_eq!(run(&whole[..length]), "short\n", "{length} bytes");
+        assert_eq!(REPLAY.run(&whole[..length]), "short\n", "{length} bytes");
     }
     // Whatever the tables hold.
-    assert_eq!(run(&vec![0xff; REPLAY_TABLES_BYTES - 1]), "short\n");
+    assert_eq!(REPLAY.run(&vec![0xff; REPLAY_TABLES_BYTES - 1]), "short\n");
 }
 
 #[test]
 fn tables_and_nothing_more() {
-    assert_eq!(run(&vec![0; REPLAY_TABLES_BYTES]), "load 0\n");
+    assert_eq!(REPLAY.run(&vec![0; REPLAY_TABLES_BYTES]), "load 0\n");
     compare("E11's tables", &e11_tables());
     for (seed, size) in [Size::Small, Size::OneFull, Size::Any, Size::Full]
         .into_iter()
@@ -158,7 +160,7 @@ fn parts_left_over() {
     for left in 1..EDIT_BYTES {
         for edits in 0..2 {
             let input = &whole[..REPLAY_TABLES_BYTES + edits * EDIT_BYTES + left];
-            assert!(run(input).contains(&format!("\npart {left}\nlink ")));
+            assert!(REPLAY.run(input).contains(&format!("\npart {left}\nlink ")));
             compare("a part", input);
         }
     }
@@ -171,7 +173,7 @@ fn refused_tables() {
             let mut input = e11();
             NODE_CAPACITY.write(table_row_mut(&mut input[start..], row), CAPACITY_MAX + 1);
             let text = format!("load refused {number} row {row}\n");
-            assert_eq!(run(&input), text);
+            assert_eq!(REPLAY.run(&input), text);
         }
     }
     for seed in 0..200 {
@@ -244,7 +246,7 @@ fn ten_thousand_edits_and_more() {
 #[test]
 fn inputs_in_pieces() {
     let cut = |at: &[usize], input: &[u8]| {
-        let text = run_slowly(input, at);
+        let text = REPLAY.run_slowly(input, at);
         let right = replay(input);
         assert!(
             text == right,
@@ -283,7 +285,7 @@ fn input_that_stays_open() {
         let mut input = many_edits(REPLAY_EDITS);
         let right = replay(&input);
         input.extend(vec![1; more]);
-        let text = run_open(&input);
+        let text = REPLAY.run_open(&input);
         assert!(
             text == right,
             "{more} bytes more: {}",
