@@ -21,7 +21,7 @@ fn beside(
     ax: &[i16],
     ay: &[i16],
     ac: &mut [u32],
-    ia: &[usize],
+    ia: &[u16],
     b: &[u8],
     la: &[u32],
     lb: &[u32],
@@ -38,7 +38,7 @@ fn beside(
     let mut ys = [0i16; NODES];
     let mut ks = [0u32; NODES];
     let n = decode(b, &mut ns, &mut xs, &mut ys, &mut ks);
-    let mut ib = [0usize; LINKS];
+    let mut ib = [0u16; LINKS];
     let m = lb.len();
     locate(&ns[..n], lb, &mut ib);
     verify::verify(
@@ -69,7 +69,7 @@ pub fn all(a: &[u8], b: &[u8], la: &[u32], lb: &[u32], ld: &[u32], lm: &[u32]) -
     let mut ys = [0i16; NODES];
     let mut ks = [0u32; NODES];
     let n = decode(a, &mut ns, &mut xs, &mut ys, &mut ks);
-    let mut ia = [0usize; LINKS];
+    let mut ia = [0u16; LINKS];
     let m = la.len();
     locate(&ns[..n], la, &mut ia);
     beside(

@@ -88,7 +88,7 @@ pub fn index(ns: &[u32], head: &mut [u16], next: &mut [u16]) -> bool
 }
 
 // For each of the numbers the place where it was found, or the count of places. A hint: who uses it compares again.
-pub fn locate(ns: &[u32], numbers: &[u32], places: &mut [usize])
+pub fn locate(ns: &[u32], numbers: &[u32], places: &mut [u16])
     requires { ⌜ (length (now ns) ≤ nodeRows) × (length (now numbers) ≤ linkRows) × (length (now places) ≡ linkRows) ⌝ }
     ensures { λ _. ⌜ length (now (places .exit)) ≡ linkRows ⌝ }
 {
@@ -97,7 +97,7 @@ pub fn locate(ns: &[u32], numbers: &[u32], places: &mut [usize])
     chain(ns, &mut head, &mut next);
     let mut k = 0;
     while k < numbers.len() {
-        places[k] = probe(ns, &head, &next, numbers[k]);
+        places[k] = probe(ns, &head, &next, numbers[k]) as u16;
         k += 1;
     }
 }

@@ -28,8 +28,8 @@ pub fn verify(
     lb: &[u32],
     ld: &[u32],
     lm: &[u32],
-    ia: &[usize],
-    ib: &[usize],
+    ia: &[u16],
+    ib: &[u16],
 ) -> bool
     requires { ⌜ Fit (now an) (now ax) (now ay) (now ac) × Fit (now bn) (now bx) (now by) (now bc) ⌝ }
     requires { ⌜ Level (now la) (now lb) (now ld) (now lm) (now ia) (now ib) ⌝ }

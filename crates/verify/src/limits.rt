@@ -7,12 +7,21 @@ ghost use lib.ListN.{length, getD};
 ghost use Rattle.matching.specs.Definitions.Columns.{Distinct};
 ghost use Rattle.join.specs.Sizes.{masterRows};
 ghost use Rattle.verify.specs.Rows.{Located};
-ghost use Rattle.verify.specs.Limits.{SpentRow, Spent, distanceLimit, numberLimit, Noted, Sided};
+ghost use Rattle.verify.specs.Limits.{SpentRow, Spent, limitOf, Noted, Sided};
+use super::rows::place;
 
-// Takes row k's amount m of place i, and keeps its key there.
-fn spend_row(m: u32, key: u64, i: usize, left: &mut [u32], last: &mut [u64]) -> bool
-    requires { ⌜ (i < length (now left)) × (i < length (now last)) ⌝ }
-    ensures { λ r. ⌜ (r ≡ true → SpentRow m key i (now (left .entry)) (now (last .entry)) (now (left .exit)) (now (last .exit))) ⌝ }
+// Takes the amount m of place i, and keeps the row's distance d and other number n there.
+fn spend_row(
+    m: u32,
+    d: u32,
+    n: u32,
+    i: usize,
+    left: &mut [u32],
+    far: &mut [u32],
+    high: &mut [u32],
+) -> bool
+    requires { ⌜ (i < length (now left)) × (i < length (now far)) × (i < length (now high)) ⌝ }
+    ensures { λ r. ⌜ (r ≡ true → SpentRow m d n i (now (left .entry)) (now (far .entry)) (now (high .entry)) (now (left .exit)) (now (far .exit)) (now (high .exit))) ⌝ }
 {
     if m == 0 {
         return false;
@@ -21,33 +30,34 @@ fn spend_row(m: u32, key: u64, i: usize, left: &mut [u32], last: &mut [u64]) -> 
     if h < m {
         return false;
     }
-    if key < last[i] {
+    if join::nearest::pack(d, n) < join::nearest::pack(far[i], high[i]) {
         return false;
     }
     left[i] = h - m;
-    last[i] = key;
+    far[i] = d;
+    high[i] = n;
     true
 }
 
-// Takes the amounts of all rows; each place keeps the key of its last one.
+// Takes the amounts of all rows; each place keeps distance and other number of its last one.
 fn spend(
     ns: &[u32],
     own: &[u32],
     other: &[u32],
     ld: &[u32],
     lm: &[u32],
-    places: &[usize],
+    places: &[u16],
     left: &mut [u32],
-    last: &mut [u64],
+    far: &mut [u32],
+    high: &mut [u32],
 ) -> bool
     requires { ⌜ (length (now other) ≡ length (now own)) × (length (now ld) ≡ length (now own)) × (length (now lm) ≡ length (now own)) × (length (now places) ≡ length (now own)) ⌝ }
-    requires { ⌜ Located (now ns) (now own) (now places) × Distinct (now ns) × (length (now left) ≡ length (now ns)) × (length (now ns) ≤ length (now last)) ⌝ }
-    ensures { λ r. ⌜ (r ≡ true → Spent (now (ns .entry)) (now (own .entry)) (now (other .entry)) (now (ld .entry)) (now (lm .entry)) (length (now (own .entry))) (now (left .entry)) (now (left .exit)) (now (last .exit))) ⌝ }
+    requires { ⌜ Located (now ns) (now own) (now places) × Distinct (now ns) × (length (now left) ≡ length (now ns)) × (length (now ns) ≤ length (now far)) × (length (now ns) ≤ length (now high)) ⌝ }
+    ensures { λ r. ⌜ (r ≡ true → Spent (now (ns .entry)) (now (own .entry)) (now (other .entry)) (now (ld .entry)) (now (lm .entry)) (length (now (own .entry))) (now (left .entry)) (now (left .exit)) (now (far .exit)) (now (high .exit))) ⌝ }
 {
     let mut k = 0;
     while k < own.len() {
-        let key = join::nearest::pack(ld[k], other[k]);
-        if !spend_row(lm[k], key, places[k], left, last) {
+        if !spend_row(lm[k], ld[k], other[k], place(places, k), left, far, high) {
             return false;
         }
         k += 1;
@@ -56,30 +66,23 @@ fn spend(
 }
 
 // A node that has something left takes a pair at any distance.
-fn distance_limit(left: u32, key: u64) -> u32
-    ensures { λ r. ⌜ r ≡ distanceLimit left key ⌝ }
+fn limit(left: u32, far: u32) -> u32
+    ensures { λ r. ⌜ r ≡ limitOf left far ⌝ }
 {
     if left == 0 {
-        return join::nearest::distance(key);
+        return far;
     }
     sizes::FREE
 }
 
-fn number_limit(key: u64) -> u32
-    ensures { λ r. ⌜ r ≡ numberLimit key ⌝ }
-{
-    (key % join::sizes::RANGE) as u32
-}
-
 // The limits of all places.
-fn note(left: &[u32], last: &[u64], far: &mut [u32], high: &mut [u32])
-    requires { ⌜ (length (now left) ≤ length (now last)) × (length (now left) ≤ length (now far)) × (length (now left) ≤ length (now high)) ⌝ }
-    ensures { λ _. ⌜ Noted (now (left .entry)) (now (last .entry)) (now (far .exit)) (now (high .exit)) (length (now (left .entry))) ⌝ }
+fn note(left: &[u32], far: &mut [u32])
+    requires { ⌜ length (now left) ≤ length (now far) ⌝ }
+    ensures { λ _. ⌜ Noted (now (left .entry)) (now (far .entry)) (now (far .exit)) (length (now (left .entry))) ⌝ }
 {
     let mut i = 0;
     while i < left.len() {
-        far[i] = distance_limit(left[i], last[i]);
-        high[i] = number_limit(last[i]);
+        far[i] = limit(left[i], far[i]);
         i += 1;
     }
 }
@@ -91,7 +94,7 @@ pub fn side(
     other: &[u32],
     ld: &[u32],
     lm: &[u32],
-    places: &[usize],
+    places: &[u16],
     capacities: &mut [u32],
     far: &mut [u32],
     high: &mut [u32],
@@ -101,10 +104,9 @@ pub fn side(
     requires { ⌜ (length (now far) ≡ masterRows) × (length (now high) ≡ masterRows) ⌝ }
     ensures { λ r. ⌜ (r ≡ true → Sided (now (ns .entry)) (now (own .entry)) (now (other .entry)) (now (ld .entry)) (now (lm .entry)) (now (capacities .entry)) (now (far .exit)) (now (high .exit))) ⌝ }
 {
-    let mut last = [0u64; sizes::NODES];
-    if !spend(ns, own, other, ld, lm, places, capacities, &mut last) {
+    if !spend(ns, own, other, ld, lm, places, capacities, far, high) {
         return false;
     }
-    note(capacities, &last, far, high);
+    note(capacities, far);
     true
 }

@@ -32,6 +32,14 @@ pub fn in_order(la: &[u32], lb: &[u32], ld: &[u32]) -> bool
     true
 }
 
+// A row's place as an index.
+pub fn place(places: &[u16], k: usize) -> usize
+    requires { ⌜ k < length (now places) ⌝ }
+    ensures { λ r. ⌜ r ≡ getD (now (places .entry)) k 0 ⌝ }
+{
+    places[k] as usize
+}
+
 // Place i of a master has the number n.
 fn has(ns: &[u32], i: usize, n: u32) -> bool
     ensures { λ r. ⌜ (r ≡ true → (i < length (now (ns .entry))) × (getD (now (ns .entry)) i 0 ≡ n)) ⌝ }
@@ -43,13 +51,13 @@ fn has(ns: &[u32], i: usize, n: u32) -> bool
 }
 
 // The places hold what they are said to: each row's number.
-pub fn located(ns: &[u32], own: &[u32], places: &[usize]) -> bool
+pub fn located(ns: &[u32], own: &[u32], places: &[u16]) -> bool
     requires { ⌜ length (now places) ≡ length (now own) ⌝ }
     ensures { λ r. ⌜ (r ≡ true → Located (now (ns .entry)) (now (own .entry)) (now (places .entry))) ⌝ }
 {
     let mut k = 0;
     while k < own.len() {
-        if !has(ns, places[k], own[k]) {
+        if !has(ns, place(places, k), own[k]) {
             return false;
         }
         k += 1;
@@ -60,8 +68,8 @@ pub fn located(ns: &[u32], own: &[u32], places: &[usize]) -> bool
 // Each row has the distance of its places.
 pub fn distances(
     ld: &[u32],
-    ia: &[usize],
-    ib: &[usize],
+    ia: &[u16],
+    ib: &[u16],
     ax: &[i16],
     ay: &[i16],
     bx: &[i16],
@@ -73,7 +81,7 @@ pub fn distances(
 {
     let mut k = 0;
     while k < ld.len() {
-        if ld[k] != join::nearest::apart(ia[k], ib[k], ax, ay, bx, by) {
+        if ld[k] != join::nearest::apart(place(ia, k), place(ib, k), ax, ay, bx, by) {
             return false;
         }
         k += 1;

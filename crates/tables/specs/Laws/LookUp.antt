@@ -1,12 +1,12 @@
 -- The look-up by number, as a definition, so that equal numbers give equal answers. It says nothing of what the chains hold.
 use Prim.Native.Nat.{ℕ, zero, suc, _-_, _*_, _/_, _%_, _<_, _≤_}
-use mathlib.Core.Path.{_≡_, sym, _∙_, ap}
-use mathlib.Core.Bool.{cond}
+use mathlib.Core.Path.{_≡_, refl, sym, _∙_, ap}
+use mathlib.Core.Bool.{Bool, true, false, cond}
 use mathlib.Core.List.{List}
 use native.Mathlib.Omega.{arith}
 use lib.Dec.{ltb, eqb}
 use lib.ListN.{length, getD}
-use borrow.Author.Tests.{eq-eqb, ne-eqb, lt-ltb, le-ltb}
+use borrow.Author.Tests.{eq-eqb, ne-eqb, ltb-false, lt-ltb, le-ltb}
 use Rattle.matching.specs.Definitions.Columns.{Distinct}
 use Rattle.tables.specs.Definitions.Sizes.{nodeRows}
 
@@ -63,3 +63,20 @@ module _ (ns next : List ℕ) (n f i : ℕ) where
 -- Where each place is found by its number, no number stands twice.
 pub found-distinct : (ns head next : List ℕ) → ((i : ℕ) → i < length ns → lookUp ns head next (getD ns i 0) ≡ i) → Distinct ns
 found-distinct ns head next h i j a b e = sym (h i a) ∙ ap (lookUp ns head next) e ∙ h j b
+
+-- A place is within the numbers, or their count.
+walk-low : (ns next : List ℕ) (n f i : ℕ) → walk ns next n f i ≤ length ns
+unfolding walk
+walk-low ns next n zero i = omega arith
+walk-low ns next n (suc f) i = go (eqb i 0) (ltb (length ns) i) refl (eqb (getD ns (i - 1) 0) n) (walk-low ns next n f (getD next (i - 1) 0))
+  where
+    go : (t u : Bool) → ltb (length ns) i ≡ u → (v : Bool) → walk ns next n f (getD next (i - 1) 0) ≤ length ns
+        → cond t (length ns) (cond u (length ns) (cond v (i - 1) (walk ns next n f (getD next (i - 1) 0)))) ≤ length ns
+    go true u e v h = omega arith
+    go false true e v h = omega arith
+    go false false e true h = omega (arith, ltb-false (length ns) i e)
+    go false false e false h = h
+
+pub look-up-low : (ns head next : List ℕ) (n r : ℕ) → r ≡ lookUp ns head next n → r ≤ length ns
+unfolding lookUp
+look-up-low ns head next n r e = rw e (walk-low ns next n nodeRows (getD head (slotOf n) 0))

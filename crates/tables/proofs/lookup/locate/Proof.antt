@@ -5,6 +5,7 @@ use lib.ListN.{length, length-set}
 use native.Mathlib.Omega.{arith}
 use mathlib.Core.Path.{_≡_}
 use Prim.Native.Nat.{_-_, _≤_}
+use Rattle.tables.specs.Laws.LookUp.{look-up-low}
 use Rattle.tables.proofs.lookup.locate.Statement.{statement}
 use Rattle.tables.proofs.lookup.locate.Tie as tie
 
@@ -40,6 +41,9 @@ shared-slice-read-probe c = search needs
 
 probe-requires : tie.Need-probe-requires Inv-loop μ-loop
 probe-requires c κs = search needs
+
+cast-places : tie.Need-cast-places Inv-loop μ-loop
+cast-places c = omega (arith, look-up-low _ _ _ _ _ (c .probe .ensures .1))
 
 mul-places : tie.Need-mul-places Inv-loop μ-loop
 mul-places c = search needs
@@ -77,6 +81,7 @@ locate-spec =
     mul-probe
     shared-slice-read-probe
     probe-requires
+    cast-places
     mul-places
     slice-write-places
     add-k

@@ -18,11 +18,23 @@ slice-read-h c = search needs
 returns-2 : tie.Need-returns-2
 returns-2 c = λ h. absurd (false≢true h)
 
-mul-if3 : tie.Need-mul-if3
-mul-if3 c = search needs
+pack-requires : tie.Need-pack-requires
+pack-requires c κs = search needs
 
-slice-read-if3 : tie.Need-slice-read-if3
-slice-read-if3 c = search needs
+mul-pack : tie.Need-mul-pack
+mul-pack c = search needs
+
+slice-read-pack : tie.Need-slice-read-pack
+slice-read-pack c = search needs
+
+mul-pack-2 : tie.Need-mul-pack-2
+mul-pack-2 c = search needs
+
+slice-read-pack-2 : tie.Need-slice-read-pack-2
+slice-read-pack-2 c = search needs
+
+pack-requires-2 : tie.Need-pack-requires-2
+pack-requires-2 c κs = search needs
 
 returns-3 : tie.Need-returns-3
 returns-3 c = λ h. absurd (false≢true h)
@@ -33,11 +45,17 @@ mul-left c = search needs
 slice-write-left : tie.Need-slice-write-left
 slice-write-left c = search needs
 
-mul-last : tie.Need-mul-last
-mul-last c = search needs
+mul-far : tie.Need-mul-far
+mul-far c = search needs
 
-slice-write-last : tie.Need-slice-write-last
-slice-write-last c = search needs
+slice-write-far : tie.Need-slice-write-far
+slice-write-far c = search needs
+
+mul-high : tie.Need-mul-high
+mul-high c = search needs
+
+slice-write-high : tie.Need-slice-write-high
+slice-write-high c = search needs
 
 same-length : tie.Need-same-length
 same-length c = search needs
@@ -45,13 +63,18 @@ same-length c = search needs
 same-length-2 : tie.Need-same-length-2
 same-length-2 c = search needs
 
+same-length-3 : tie.Need-same-length-3
+same-length-3 c = search needs
+
 returns-4 : tie.Need-returns-4
 returns-4 c = λ h. record {
   some = omega arith;
   fits = omega arith;
-  later = omega arith;
+  later = omega (arith, c .before .before .before .before .pack .ensures .is, c .before .pack2 .ensures .is);
+  small = c .before .before .before .before .pack .ensures .small;
   left-is = refl;
-  last-is = refl;
+  far-is = refl;
+  high-is = refl;
 }
 
 pub spend-row-spec : {M : Type 1} → statement M
@@ -62,13 +85,20 @@ spend-row-spec =
     mul-h
     slice-read-h
     returns-2
-    mul-if3
-    slice-read-if3
+    pack-requires
+    mul-pack
+    slice-read-pack
+    mul-pack-2
+    slice-read-pack-2
+    pack-requires-2
     returns-3
     mul-left
     slice-write-left
-    mul-last
-    slice-write-last
+    mul-far
+    slice-write-far
+    mul-high
+    slice-write-high
     same-length
     same-length-2
+    same-length-3
     returns-4)

@@ -25,20 +25,14 @@ mul-if1 c = search needs
 shared-slice-read-if1 : tie.Need-shared-slice-read-if1 Inv-loop μ-loop
 shared-slice-read-if1 c = search needs
 
-mul-apart : tie.Need-mul-apart Inv-loop μ-loop
-mul-apart c = search needs
+place-requires : tie.Need-place-requires Inv-loop μ-loop
+place-requires c κs = search needs
 
-shared-slice-read-apart : tie.Need-shared-slice-read-apart Inv-loop μ-loop
-shared-slice-read-apart c = search needs
-
-mul-apart-2 : tie.Need-mul-apart-2 Inv-loop μ-loop
-mul-apart-2 c = search needs
-
-shared-slice-read-apart-2 : tie.Need-shared-slice-read-apart-2 Inv-loop μ-loop
-shared-slice-read-apart-2 c = search needs
+place-requires-2 : tie.Need-place-requires-2 Inv-loop μ-loop
+place-requires-2 c κs = search needs
 
 apart-requires : tie.Need-apart-requires Inv-loop μ-loop
-apart-requires c κs = c .before .before .before .before .before .before .before .before .pre .1 (c .before .before .before .before .loop .k) (c .before .before .before .loop-test .taken)
+apart-requires c κs = rw (c .before .place .ensures, c .place2 .ensures) (c .before .before .before .before .before .before .before .before .pre .1 (c .before .before .before .before .loop .k) (c .before .before .before .loop-test .taken))
 
 returns : tie.Need-returns Inv-loop μ-loop
 returns c = λ h. absurd (false≢true h)
@@ -50,7 +44,7 @@ loop-less : tie.Need-loop-less Inv-loop μ-loop
 loop-less c = search needs
 
 loop-again : tie.Need-loop-again Inv-loop μ-loop
-loop-again c = (omega arith, below-more _ _ (c .before .before .before .before .before .before .loop .inv .1) (c .if1 .left ∙ c .before .apart .ensures))
+loop-again c = (omega arith, below-more _ _ (c .before .before .before .before .before .before .loop .inv .1) (c .if1 .left ∙ (rw (c .before .before .before .place .ensures, c .before .before .place2 .ensures) at (c .before .apart .ensures))))
 
 returns-2 : tie.Need-returns-2 Inv-loop μ-loop
 returns-2 c = λ w i h. c .before .loop .inv .1 i (omega arith)
@@ -64,10 +58,8 @@ distances-spec =
     loop-holds
     mul-if1
     shared-slice-read-if1
-    mul-apart
-    shared-slice-read-apart
-    mul-apart-2
-    shared-slice-read-apart-2
+    place-requires
+    place-requires-2
     apart-requires
     returns
     add-k

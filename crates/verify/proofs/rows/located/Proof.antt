@@ -19,17 +19,14 @@ abbrev μ-loop : tie.MeasureT-loop
 loop-holds : tie.Need-loop-holds Inv-loop μ-loop
 loop-holds c = (omega arith, below-none _)
 
+place-requires : tie.Need-place-requires Inv-loop μ-loop
+place-requires c κs = search needs
+
 mul-has : tie.Need-mul-has Inv-loop μ-loop
 mul-has c = search needs
 
 shared-slice-read-has : tie.Need-shared-slice-read-has Inv-loop μ-loop
 shared-slice-read-has c = search needs
-
-mul-has-2 : tie.Need-mul-has-2 Inv-loop μ-loop
-mul-has-2 c = search needs
-
-shared-slice-read-has-2 : tie.Need-shared-slice-read-has-2 Inv-loop μ-loop
-shared-slice-read-has-2 c = search needs
 
 has-requires : tie.Need-has-requires Inv-loop μ-loop
 has-requires c κs = search needs
@@ -44,7 +41,7 @@ loop-less : tie.Need-loop-less Inv-loop μ-loop
 loop-less c = search needs
 
 loop-again : tie.Need-loop-again Inv-loop μ-loop
-loop-again c = (omega arith, below-more _ _ (c .before .before .before .before .before .loop .inv .1) (c .before .has .ensures (not-false _ (c .if1 .left))))
+loop-again c = (omega arith, below-more _ _ (c .before .before .before .before .before .loop .inv .1) (rw (c .before .before .before .place .ensures) at (c .before .has .ensures (not-false _ (c .if1 .left)))))
 
 returns-2 : tie.Need-returns-2 Inv-loop μ-loop
 returns-2 c = λ w i h. c .before .loop .inv .1 i (omega arith)
@@ -56,10 +53,9 @@ located-spec =
     Inv-loop
     μ-loop
     loop-holds
+    place-requires
     mul-has
     shared-slice-read-has
-    mul-has-2
-    shared-slice-read-has-2
     has-requires
     returns
     add-k
