@@ -4,9 +4,10 @@
 # make bench  the engine's join timed beside two ordinary ones
 # make fuzz   the five calls beside the model on fresh seeds, for SECONDS=n (60)
 # make install       archive, headers, CMake and pkg-config files to PREFIX (/usr/local), below DESTDIR
+# make pictures      draws docs/pictures from what the engine gives
 # make reproducible  builds the archive in two clones and compares them (about 8 minutes)
 # make help   this list
-.PHONY: help test run bench fuzz proved install reproducible
+.PHONY: help test run bench fuzz proved install pictures reproducible
 
 SECONDS = 60
 PREFIX = /usr/local
@@ -49,6 +50,9 @@ install: $(archive)
 	@version=$$(sed -n 's/^#define PAIRING_VERSION "\(.*\)"$$/\1/p' include/pairing.h) && \
 	sed "s/@VERSION@/$$version/" packaging/pairing.pc.in >$(into)/lib/pkgconfig/pairing.pc
 	@echo "installed to $(into)"
+
+pictures: $(archive)
+	@tools/pictures
 
 reproducible:
 	@tools/reproducible
