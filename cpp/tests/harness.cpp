@@ -1,10 +1,12 @@
 #include "harness.hpp"
 
+#include <atomic>
 #include <cstdio>
 #include <cstdlib>
+#include <initializer_list>
 #include <new>
 
-static std::size_t allocated = 0;
+static std::atomic<std::size_t> allocated{0};
 
 // Counts what is allocated, for the test that a call allocates nothing.
 void *operator new(std::size_t size) {
@@ -16,6 +18,53 @@ void *operator new(std::size_t size) {
 void operator delete(void *memory) noexcept { std::free(memory); }
 void operator delete(void *memory, std::size_t) noexcept { std::free(memory); }
 
+static std::atomic<std::size_t> calls_of_engine{0};
+static std::atomic<bool> all_valid{true};
+
+static void seen(std::initializer_list<const std::uint8_t *> pointers) {
+    ++calls_of_engine;
+    for (const std::uint8_t *pointer : pointers)
+        if (!pointer) all_valid = false;
+}
+
+// The linker sends each call of the engine through here (--wrap), so that tests see what reaches it.
+extern "C" {
+decltype(pairing_pair) __real_pairing_pair, __wrap_pairing_pair;
+decltype(pairing_step) __real_pairing_step, __wrap_pairing_step;
+decltype(pairing_edit) __real_pairing_edit, __wrap_pairing_edit;
+decltype(pairing_spare) __real_pairing_spare, __wrap_pairing_spare;
+decltype(pairing_bands) __real_pairing_bands, __wrap_pairing_bands;
+
+std::uint32_t __wrap_pairing_pair(const std::uint8_t *a, std::size_t a_len, const std::uint8_t *b, std::size_t b_len,
+                                  std::uint8_t *list, std::size_t list_len) {
+    seen({a, b, list});
+    return __real_pairing_pair(a, a_len, b, b_len, list, list_len);
+}
+std::uint32_t __wrap_pairing_step(const std::uint8_t *a, std::size_t a_len, const std::uint8_t *b, std::size_t b_len,
+                                  std::uint8_t *list, std::size_t list_len) {
+    seen({a, b, list});
+    return __real_pairing_step(a, a_len, b, b_len, list, list_len);
+}
+std::uint32_t __wrap_pairing_edit(std::uint8_t *a, std::size_t a_len, std::uint8_t *b, std::size_t b_len,
+                                  std::uint8_t *list, std::size_t list_len, const std::uint8_t *edit,
+                                  std::size_t edit_len) {
+    seen({a, b, list, edit});
+    return __real_pairing_edit(a, a_len, b, b_len, list, list_len, edit, edit_len);
+}
+std::uint32_t __wrap_pairing_spare(const std::uint8_t *a, std::size_t a_len, const std::uint8_t *b, std::size_t b_len,
+                                   const std::uint8_t *list, std::size_t list_len, std::uint8_t master,
+                                   std::uint16_t number) {
+    seen({a, b, list});
+    return __real_pairing_spare(a, a_len, b, b_len, list, list_len, master, number);
+}
+std::uint32_t __wrap_pairing_bands(const std::uint8_t *a, std::size_t a_len, const std::uint8_t *b, std::size_t b_len,
+                                   const std::uint8_t *list, std::size_t list_len, std::uint8_t *counts,
+                                   std::size_t counts_len) {
+    seen({a, b, list, counts});
+    return __real_pairing_bands(a, a_len, b, b_len, list, list_len, counts, counts_len);
+}
+}
+
 namespace harness {
 
 using namespace pairing;
@@ -24,6 +73,8 @@ std::string replay;
 static int failures = 0;
 
 std::size_t allocations() { return allocated; }
+std::size_t engine_calls() { return calls_of_engine; }
+bool pointers_valid() { return all_valid; }
 
 std::vector<Test> &tests() {
     static std::vector<Test> all;

@@ -23,6 +23,9 @@ struct Registered {
 
 // How often memory was allocated so far.
 std::size_t allocations();
+// How often the engine was called so far, and whether no pointer that it was given was null.
+std::size_t engine_calls();
+bool pointers_valid();
 
 // Where the replay program stands; empty where none is given.
 extern std::string replay;

@@ -28,8 +28,10 @@ void lend(const Call &call, std::size_t one, std::size_t other, std::size_t one_
     const auto far = static_cast<std::size_t>(behind ? shift : -shift);
     const bool shared = one_size > 0 && other_size > 0 && far < (behind ? one_size : other_size);
     const bool refused = shared && (call.written[one] || call.written[other]);
+    const std::size_t calls = harness::engine_calls();
     const Outcome outcome = call.run(views);
     CHECK((outcome.refusal() == Refusal::overlap) == refused);
+    CHECK(harness::engine_calls() == calls + !refused);
     CHECK(outcome.refusal() != Refusal::null_pointer);
     if (refused) CHECK(outcome.value() == 0 && memory == before && own == own_before);
     ++tried;
@@ -100,7 +102,9 @@ TEST(null_and_empty) {
             }
             for (const std::size_t size : {std::size_t{1}, call.sizes[place], ~std::size_t{0}}) {
                 views[place] = {nullptr, size};
+                const std::size_t calls = harness::engine_calls();
                 CHECK(harness::is(call.run(views), Refusal::null_pointer, 0));
+                CHECK(harness::engine_calls() == calls);
             }
             CHECK(own == before && one == 0x5a);
         }
@@ -111,4 +115,5 @@ TEST(null_and_empty) {
     CHECK(harness::is(edit(none, none, none, none), Refusal::length, 0));
     CHECK(harness::is(spare(none, none, none, Master::a, 1), Refusal::length, 0));
     CHECK(harness::is(bands(none, none, none, none), Refusal::length, 0));
+    CHECK(harness::pointers_valid());
 }
