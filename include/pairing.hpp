@@ -124,22 +124,23 @@ T *address(View<T> view) noexcept {
     return view.data() ? view.data() : const_cast<T *>(&nothing);
 }
 
+// Pair and Step take and write the same buffers.
+inline Outcome write_links(decltype(pairing_pair) *call, ConstBytes a, ConstBytes b, Bytes list) noexcept {
+    const Refusal refusal = refusal_of({a, b, list});
+    if (refusal != Refusal::none) return {refusal, 0};
+    return Outcome::of(call(address(a), a.size(), address(b), b.size(), address(list), list.size()));
+}
+
 }  // namespace detail
 
 // Writes the finished list of the two tables, whatever the list holds. Value: how many links.
 inline Outcome pair(ConstBytes a, ConstBytes b, Bytes list) noexcept {
-    using detail::address;
-    const Refusal refusal = detail::refusal_of({a, b, list});
-    if (refusal != Refusal::none) return {refusal, 0};
-    return Outcome::of(pairing_pair(address(a), a.size(), address(b), b.size(), address(list), list.size()));
+    return detail::write_links(pairing_pair, a, b, list);
 }
 
 // Writes the next link of a list that holds the first ones. Value: 1, or 0 where the list is finished.
 inline Outcome step(ConstBytes a, ConstBytes b, Bytes list) noexcept {
-    using detail::address;
-    const Refusal refusal = detail::refusal_of({a, b, list});
-    if (refusal != Refusal::none) return {refusal, 0};
-    return Outcome::of(pairing_step(address(a), a.size(), address(b), b.size(), address(list), list.size()));
+    return detail::write_links(pairing_step, a, b, list);
 }
 
 // Changes one node and keeps the list finished. Value: rows kept; draw the links from that row on again.

@@ -62,17 +62,13 @@ TEST(refused_length) {
 }
 
 TEST(refused_tables) {
-    for (const std::size_t row : {0u, 1u, 2u, 511u}) {
-        const auto capacity = [row](std::vector<std::uint8_t> &table) { table[8 * row + 6] = 65; };
-        every_call([&](auto &own) { capacity(own[0]); },
-                   [&](const Call &, const Outcome &outcome) {
-                       CHECK(is(outcome, Refusal::table_a, static_cast<std::uint32_t>(row)));
-                   });
-        every_call([&](auto &own) { capacity(own[1]); },
-                   [&](const Call &, const Outcome &outcome) {
-                       CHECK(is(outcome, Refusal::table_b, static_cast<std::uint32_t>(row)));
-                   });
-    }
+    const Refusal refusals[] = {Refusal::table_a, Refusal::table_b};
+    for (const std::size_t table : {0u, 1u})
+        for (const std::size_t row : {0u, 1u, 2u, 511u})
+            every_call([&](auto &own) { own[table][8 * row + 6] = 65; },
+                       [&](const Call &, const Outcome &outcome) {
+                           CHECK(is(outcome, refusals[table], static_cast<std::uint32_t>(row)));
+                       });
 }
 
 TEST(refused_list) {

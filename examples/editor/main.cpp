@@ -12,10 +12,9 @@ using pairing::Outcome;
 static pairing::Drawing drawing;
 
 static void draw(std::size_t from) {
-    for (std::size_t row = from; row < drawing.links().size(); ++row) {
-        const pairing::Link &link = drawing.links()[row];
-        std::printf("  %zu: light %u - bold %u, amount %u\n", row, link.a(), link.b(), link.amount());
-    }
+    const pairing::View<const pairing::Link> links = drawing.links();
+    for (std::size_t row = from; row < links.size(); ++row)
+        std::printf("  %zu: light %u - bold %u, amount %u\n", row, links[row].a(), links[row].b(), links[row].amount());
 }
 
 static void change(const char *what, const Edit &edit) {
