@@ -1,5 +1,5 @@
-// Fuzz target: the engine's five calls beside the model's (rust/fuzz), on drawings, damage and calls that the input asks
-// for. A difference in an answer, in a lent byte or in one that is not lent ends the program.
+// Fuzz target: the engine's five calls beside the model's (rust/fuzz), on drawings, damage and calls that the input
+// asks for. A difference in an answer, in a lent byte or in one that is not lent ends the program.
 #include "pairing.hpp"
 
 #include <algorithm>
@@ -81,6 +81,21 @@ std::uint32_t run(const Side &side, const Call &call, Memory &memory) {
     std::abort();
 }
 
+// How often each call was done (number 0) or refused with which number; told at the end.
+struct Tally {
+    long times[5][PAIRING_REFUSED_FULL + 1] = {};
+
+    ~Tally() {
+        const char *const names[] = {"pair", "step", "edit", "spare", "bands"};
+        for (std::size_t k = 0; k < 5; ++k) {
+            std::fprintf(stderr, "%s by refusal number:", names[k]);
+            for (const long count : times[k]) std::fprintf(stderr, " %ld", count);
+            std::fprintf(stderr, "\n");
+        }
+    }
+};
+Tally tally;
+
 class World {
 public:
     explicit World(Input &input) : input_(input) {
@@ -94,16 +109,16 @@ public:
 
     void play() {
         for (int turn = 0; turn < 40 && input_.more(); ++turn) {
-            switch (input_.below(16)) {
+            switch (input_.below(14)) {
                 case 1: call(What::pair); break;
                 case 2: call(What::step); break;
                 case 3: raw_edit(); break;
                 case 4: spare(); break;
                 case 5: bands(); break;
-                case 6: case 7: damage(); break;
-                case 8: now_ = sound_; break;
-                case 9: length_ = {input_.below(4), input_.below(2 * margin)}; break;
-                case 10: more_nodes(); break;
+                case 6: damage(); break;
+                case 7: now_ = sound_; break;
+                case 8: length_ = {input_.below(4), input_.below(2 * margin)}; break;
+                case 9: more_nodes(); break;
                 default: edit(some_edit()); break;
             }
         }
@@ -131,6 +146,7 @@ private:
             std::abort();
         }
         const std::uint32_t refusal = PAIRING_REFUSAL(answer);
+        ++tally.times[static_cast<int>(what)][refusal];
         if (refusal == PAIRING_DONE && (what == What::pair || what == What::edit)) sound_ = now_;
         // Damage is mended after two calls, or all later ones would only see that.
         const bool hurt = refusal >= PAIRING_REFUSED_TABLE_A && refusal <= PAIRING_REFUSED_UNFINISHED;
@@ -179,7 +195,8 @@ private:
         } else {
             std::uint8_t many[3 * PAIRING_TABLE_ROWS];
             const unsigned factor = input_.byte(), more = input_.byte();
-            for (unsigned k = 0; k < sizeof many; ++k) many[k] = static_cast<std::uint8_t>((k * factor + more) * k >> 3);
+            for (unsigned k = 0; k < sizeof many; ++k)
+                many[k] = static_cast<std::uint8_t>((k * factor + more) * k >> 3);
             Input from(many, sizeof many);
             fill(byte % 2, PAIRING_TABLE_ROWS, from);
             full_ = true;
