@@ -236,9 +236,9 @@ private:
         call(What::bands);
     }
 
-    // A byte of a row, a row for another, or zeros from a row on. Rows near the last one in use are the likely ones.
+    // The list zero from a row on, a row for another, or a byte of a row. Rows near the last in use are the likely ones.
     void damage() {
-        const std::size_t which = input_.below(3), way = input_.below(4);
+        const std::size_t way = input_.below(4), which = way == 0 ? 2 : input_.below(3);
         const std::size_t width = which == 2 ? PAIRING_LINK_BYTES : PAIRING_NODE_BYTES, rows = stated[which] / width;
         const std::size_t likely = used(0) + used(1) + 2;
         const std::size_t row = input_.below(way == 3 ? rows : likely) % rows, other = input_.below(likely) % rows;
