@@ -6,7 +6,7 @@
 # make fuzz-guided   the same, led by the model's coverage (libFuzzer), for SECONDS=n
 # make install       archive, headers, CMake and pkg-config files to PREFIX (/usr/local), below DESTDIR
 # make pictures      draws docs/pictures from what the engine gives
-# make reproducible  builds the archive in two clones and compares them (about 8 minutes)
+# make reproducible  builds the archive in two clones and compares them; proves everything twice
 # make help          this list
 .PHONY: help test run bench fuzz fuzz-guided proved install pictures reproducible
 
