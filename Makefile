@@ -1,16 +1,24 @@
-# make test   the gate: proofs, must-fail edits, tests; its last line is "N passed, 0 failed"
-# make run    builds the replay program and replays a sample drawing: its links before and after two edits
-# make proved proves every crate and prints what is proved
-# make bench  whole calls timed beside two peers in safe Rust; ONLY=edit picks the calls with that in their name
-# make stack  the stack that each call uses at 512 x 512 nodes; fails at 128 KB
-# make fuzz   the five calls beside the model on fresh seeds, for SECONDS=n (60)
-# make help   this list
-.PHONY: help test run bench stack stack-run fuzz proved
+# make test          the gate: proofs, must-fail edits, tests; its last line is "N passed, 0 failed"
+# make run           builds the replay program and replays a sample drawing: its links before and after two edits
+# make proved        proves every crate and prints what is proved
+# make bench         whole calls timed beside two peers in safe Rust; ONLY=edit picks the calls with that in their name
+# make stack         the stack that each call uses at 512 x 512 nodes; fails at 128 KB
+# make fuzz          the five calls beside the model on fresh seeds, for SECONDS=n (60)
+# make fuzz-guided   the same, led by the model's coverage (libFuzzer), for SECONDS=n
+# make install       archive, headers, CMake and pkg-config files to PREFIX (/usr/local), below DESTDIR
+# make pictures      draws docs/pictures from what the engine gives
+# make reproducible  builds the archive in two clones and compares them; proves everything twice
+# make help          this list
+.PHONY: help test run bench stack stack-run fuzz fuzz-guided proved install pictures reproducible
 
 SECONDS = 60
+PREFIX = /usr/local
+DESTDIR =
+
+archive = target/staticlib/libpairing.a
 
 help:
-	@sed -n 's/^# //p' Makefile
+	@sed -n 's/^# make/make/p' Makefile
 
 test:
 	@tools/gate
@@ -23,20 +31,41 @@ run:
 proved:
 	@tools/proved
 
-bench:
-	@rt staticlib pairing
+bench: $(archive)
 	@ONLY="$(ONLY)" cargo run --release --offline --manifest-path rust/bench/Cargo.toml
 
-stack:
-	@rt staticlib pairing
+stack: $(archive)
 	@$(MAKE) -s stack-run
 
 ## The archive as it stands, for the gate.
 stack-run:
 	@mkdir -p target
-	@g++ -std=c++17 -O2 -Wall -Wextra -Werror -pedantic -Iinclude rust/bench/stack.cpp target/staticlib/libpairing.a -pthread -o target/stack
+	@g++ -std=c++17 -O2 -Wall -Wextra -Werror -pedantic -Iinclude rust/bench/stack.cpp $(archive) -pthread -o target/stack
 	@target/stack
 
-fuzz:
-	@rt staticlib pairing
+fuzz: $(archive)
 	@FUZZ_SECONDS=$(SECONDS) cargo test --release --offline --manifest-path rust/differential/Cargo.toml --test calls fuzz -- --ignored --nocapture
+
+# What the archive is made of; a proof is part of it, since without one there is no archive.
+$(archive): $(shell find crates/matching crates/tables crates/join crates/verify crates/contract crates/pairing -name '*.rt' -o -name '*.antt')
+	@rt staticlib pairing
+
+into = $(DESTDIR)$(PREFIX)
+install: $(archive)
+	@install -d "$(into)/include" "$(into)/lib/pkgconfig" "$(into)/lib/cmake/pairing" "$(into)/share/doc/pairing"
+	@install -m 644 include/pairing.h include/pairing.hpp include/pairing_rows.hpp "$(into)/include"
+	@install -m 644 $(archive) "$(into)/lib"
+	@install -m 644 packaging/pairingConfig.cmake packaging/pairingConfigVersion.cmake "$(into)/lib/cmake/pairing"
+	@install -m 644 LICENSE CHANGELOG.md "$(into)/share/doc/pairing"
+	@version=$$(sed -n 's/^#define PAIRING_VERSION "\(.*\)"$$/\1/p' include/pairing.h) && \
+	sed "s/@VERSION@/$$version/" packaging/pairing.pc.in >"$(into)/lib/pkgconfig/pairing.pc"
+	@echo "installed to $(into)"
+
+fuzz-guided: $(archive)
+	@tools/fuzz $(SECONDS)
+
+pictures: $(archive)
+	@tools/pictures
+
+reproducible:
+	@tools/reproducible

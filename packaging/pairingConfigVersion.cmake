@@ -1,0 +1,27 @@
+# The version is that of the installed header. Below 1.0 a new minor version may break, so it has to be the same.
+file(STRINGS "${CMAKE_CURRENT_LIST_DIR}/../../../include/pairing.h" _pairing_line REGEX "^#define PAIRING_VERSION \"")
+string(REGEX REPLACE "^.*\"(.*)\".*$" "\\1" PACKAGE_VERSION "${_pairing_line}")
+string(REGEX MATCH "^[0-9]+\\.[0-9]+" _pairing_series "${PACKAGE_VERSION}")
+if(NOT _pairing_series MATCHES "^0\\.")
+  string(REGEX MATCH "^[0-9]+" _pairing_series "${PACKAGE_VERSION}")
+endif()
+
+if(NOT PACKAGE_FIND_VERSION)
+  set(PACKAGE_VERSION_COMPATIBLE TRUE)
+elseif(PACKAGE_FIND_VERSION VERSION_GREATER PACKAGE_VERSION)
+  set(PACKAGE_VERSION_COMPATIBLE FALSE)
+elseif("${PACKAGE_FIND_VERSION}." MATCHES "^${_pairing_series}\\.")
+  set(PACKAGE_VERSION_COMPATIBLE TRUE)
+else()
+  set(PACKAGE_VERSION_COMPATIBLE FALSE)
+endif()
+if(PACKAGE_FIND_VERSION VERSION_EQUAL PACKAGE_VERSION)
+  set(PACKAGE_VERSION_EXACT TRUE)
+endif()
+
+# The archive is for machines with 64 bits.
+if(CMAKE_SIZEOF_VOID_P AND NOT CMAKE_SIZEOF_VOID_P EQUAL 8)
+  set(PACKAGE_VERSION_UNSUITABLE TRUE)
+endif()
+unset(_pairing_line)
+unset(_pairing_series)
