@@ -3,13 +3,14 @@
 # make proved        proves every crate and prints what is proved
 # make bench         whole calls timed beside two peers in safe Rust; ONLY=edit picks the calls with that in their name
 # make stack         the stack that each call uses at 512 x 512 nodes; fails at 128 KB
+# make edits         the must-fail edits that the gate leaves out for time
 # make fuzz          the five calls beside the model on fresh seeds, for SECONDS=n (60)
 # make fuzz-guided   the same, led by the model's coverage (libFuzzer), for SECONDS=n
 # make install       archive, headers, CMake and pkg-config files to PREFIX (/usr/local), below DESTDIR
 # make pictures      draws docs/pictures from what the engine gives
 # make reproducible  builds the archive in two clones and compares them; proves everything twice
 # make help          this list
-.PHONY: help test run bench stack stack-run fuzz fuzz-guided proved install pictures reproducible
+.PHONY: help test run bench stack stack-run edits fuzz fuzz-guided proved install pictures reproducible
 
 SECONDS = 60
 PREFIX = /usr/local
@@ -42,6 +43,9 @@ stack-run:
 	@mkdir -p target
 	@g++ -std=c++17 -O2 -Wall -Wextra -Werror -pedantic -Iinclude rust/bench/stack.cpp $(archive) -pthread -o target/stack
 	@target/stack
+
+edits:
+	@tools/edits
 
 fuzz: $(archive)
 	@FUZZ_SECONDS=$(SECONDS) cargo test --release --offline --manifest-path rust/differential/Cargo.toml --test calls fuzz -- --ignored --nocapture
