@@ -1,10 +1,8 @@
 // What is lent, judged place by place from the top. A verdict only reads: done means that nothing is refused so far.
 ghost use Prim.Native.Nat.{_<_};
 ghost use mathlib.Core.Path.{_≡_};
-ghost use mathlib.Core.Bool.{cond};
 ghost use lib.ListN.{length};
 ghost use Rattle.tables.specs.Definitions.Sizes.{linkRows, listSize};
-ghost use Rattle.tables.specs.Definitions.Lists.{zeroFrom};
 ghost use Rattle.join.specs.Contract.{Room};
 ghost use Rattle.contract.specs.Definitions.Requests.{pair, lengthsOf};
 ghost use Rattle.contract.specs.Definitions.Refusals.{lengthsRight};

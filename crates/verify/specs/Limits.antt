@@ -22,7 +22,6 @@ pub record SpentRow (m d n i : ℕ) (left far high left' far' high' : List ℕ) 
   pub some : 1 ≤ m
   pub fits : m ≤ getD left i 0
   pub later : getD far i 0 * numberRange + getD high i 0 ≤ d * numberRange + n
-  pub small : n < numberRange
   pub left-is : left' ≡ set left i (getD left i 0 - m)
   pub far-is : far' ≡ set far i d
   pub high-is : high' ≡ set high i n

@@ -3,7 +3,7 @@ use crate::sizes;
 ghost use Prim.Native.Nat.{_<_, _≤_};
 ghost use mathlib.Core.Path.{_≡_};
 ghost use mathlib.Core.Bool.{true};
-ghost use lib.ListN.{length, getD};
+ghost use lib.ListN.{length};
 ghost use Rattle.matching.specs.Definitions.Columns.{Distinct};
 ghost use Rattle.join.specs.Sizes.{masterRows};
 ghost use Rattle.verify.specs.Rows.{Located};

@@ -4,8 +4,7 @@ ghost use mathlib.Core.Path.{_≡_};
 ghost use mathlib.Core.Bool.{true};
 ghost use lib.ListN.{length, getD};
 ghost use Rattle.matching.specs.Definitions.Pairs.{Before};
-ghost use Rattle.join.specs.Rows.{Placed, Columns};
-ghost use Rattle.join.specs.Nearest.{across};
+ghost use Rattle.join.specs.Rows.{Placed};
 ghost use Rattle.verify.specs.Rows.{Located, Apart, pairAt};
 
 // Row k + 1 comes after row k.

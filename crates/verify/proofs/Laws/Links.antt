@@ -1,11 +1,10 @@
 -- Links in columns as a list: in order where each row follows the one before it; what they take of a node. Assumes nothing.
 use Prim.Native.Nat.{ℕ, zero, suc, _+_, _-_, _≤_, _<_}
-use mathlib.Core.Path.{_≡_, refl, sym, _∙_, ap, ap₂}
+use mathlib.Core.Path.{_≡_, refl, _∙_, ap, ap₂}
 use mathlib.Core.Bool.{cond}
 use mathlib.Core.List.{List, [], _∷_, _++_, List·Memᴰ, List·Memᴰ·head, List·Memᴰ·tail}
 use native.Mathlib.Omega.{arith}
 use native.Mathlib.Nat.{zero-add}
-use native.Mathlib.Numerals.{add-one}
 use native.Mathlib.Decide.{ℕ-discrete}
 use lib.IntN.{ℤ}
 use lib.ListN.{length, getD}
@@ -38,7 +37,7 @@ module _ (f : ℕ → Link) where
 
   -- From row k to a later one.
   rises : (k m : ℕ) → ((i : ℕ) → k ≤ i → i < k + suc m → Rises i) → Before (pairOf (f k)) (pairOf (f (k + suc m)))
-  rises k zero h = rw (← add-one k) at (rw (add-one k) at (h k (omega arith) (omega arith)))
+  rises k zero h = h k (omega arith) (omega arith)
   rises k (suc m) h =
       let e : k + suc m + 1 ≡ k + suc (suc m) = omega arith in
       before-trans (rises k m (λ i l g. h i l (omega arith))) (rw e at (h (k + suc m) (omega arith) (omega arith)))

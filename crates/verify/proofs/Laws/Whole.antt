@@ -2,7 +2,7 @@
 use Prim.Native.Nat.{ℕ, suc, _+_, _*_, _≤_, _<_}
 use mathlib.Core.Path.{_≡_, refl, sym, _∙_, ap}
 use mathlib.Core.Bool.{Bool, true, false, cond}
-use mathlib.Core.List.{List, List·Memᴰ}
+use mathlib.Core.List.{List}
 use native.Mathlib.Omega.{arith}
 use native.Mathlib.Decide.{decLe}
 use lib.IntN.{ℤ, pos}
@@ -10,7 +10,7 @@ use lib.ListN.{length, getD}
 use lib.Dec.{ltb}
 use borrow.Author.Tests.{lt-ltb}
 use Rattle.matching.specs.Definitions.Lists.{All}
-use Rattle.matching.specs.Definitions.Nodes.{Master, masterA, masterB, each, Node, Unique}
+use Rattle.matching.specs.Definitions.Nodes.{Master, masterA, masterB, each, Node}
 use Rattle.matching.specs.Definitions.Pairs.{Pair, numberIn, distance, pair, Before, nearer, lowerA, lowerB}
 use Rattle.matching.specs.Definitions.Links.{Link, pairOf, used}
 use Rattle.matching.specs.Definitions.Join.{join}

@@ -71,7 +71,6 @@ returns-4 c = λ h. record {
   some = omega arith;
   fits = omega arith;
   later = omega (arith, c .before .before .before .before .pack .ensures .is, c .before .pack2 .ensures .is);
-  small = c .before .before .before .before .pack .ensures .small;
   left-is = refl;
   far-is = refl;
   high-is = refl;

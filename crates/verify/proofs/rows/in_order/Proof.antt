@@ -7,7 +7,6 @@ use borrow.Author.Tests.{not-false}
 use lib.ListN.{length}
 use native.Mathlib.Omega.{arith}
 use mathlib.Core.Bool.{false≢true}
-use mathlib.Core.Path.{_≡_}
 use Prim.Native.Nat.{ℕ, _+_, _-_, _≤_, _<_}
 use Rattle.verify.proofs.rows.in_order.Statement.{statement}
 use Rattle.verify.proofs.rows.in_order.Tie as tie
