@@ -1,0 +1,60 @@
+// Boxes around rows: how near a position can be to any position in a box, told without a look at the rows.
+ghost use Prim.Native.Nat.{_<_, _≤_};
+ghost use lib.ListN.{length};
+ghost use Rattle.matching.specs.Definitions.Columns.{Inside};
+ghost use Rattle.bounds.specs.Boxes.{Ahead, Extreme, Clamped, Clear};
+
+// Whether p is ahead of q: above it, or below it.
+fn ahead(above: bool, p: i16, q: i16) -> bool
+    ensures { λ r. ⌜ Ahead above p q r ⌝ }
+{
+    if above {
+        return q < p;
+    }
+    p < q
+}
+
+// Of two rows the one whose position is ahead.
+fn farther(above: bool, xs: &[i16], i: usize, k: usize) -> usize
+    requires { ⌜ (i < length (now xs)) × (k < length (now xs)) ⌝ }
+{
+    if ahead(above, xs[k], xs[i]) {
+        return k;
+    }
+    i
+}
+
+// Of the rows from first to end the one whose position is the greatest, or the least.
+pub fn extreme(above: bool, xs: &[i16], first: usize, end: usize) -> usize
+    requires { ⌜ (first < end) × (end ≤ length (now xs)) ⌝ }
+    ensures { λ r. ⌜ Extreme above (now (xs .entry)) first end r ⌝ }
+{
+    let mut at = first;
+    let mut k = first + 1;
+    while k < end {
+        at = farther(above, xs, at, k);
+        k += 1;
+    }
+    at
+}
+
+// The position nearest to p from low to high.
+fn clamp(p: i16, low: i16, high: i16) -> i16
+    ensures { λ r. ⌜ Clamped p low high r ⌝ }
+{
+    if p < low {
+        return low;
+    }
+    if high < p {
+        return high;
+    }
+    p
+}
+
+// The squared distance of a position and the box from left to right and from low to high.
+pub fn clearance(x: i16, y: i16, left: i16, right: i16, low: i16, high: i16) -> u32
+    requires { ⌜ Inside x y × Inside left low × Inside right high ⌝ }
+    ensures { λ r. ⌜ Clear x y left right low high r ⌝ }
+{
+    matching::squared_distance(x, y, clamp(x, left, right), clamp(y, low, high))
+}
