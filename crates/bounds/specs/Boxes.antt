@@ -6,6 +6,7 @@ use mathlib.Core.List.{List}
 use lib.IntN.{ℤ, pos, _-ℤ_, natAbs}
 use lib.ListN.{getD}
 use lib.Signed.{_≤ℤ_}
+use mathlib.Core.Logic.{_⊎_}
 use Rattle.matching.specs.Definitions.Pairs.{squaredDistance}
 
 -- q is no farther than p, upwards or downwards.
@@ -17,6 +18,12 @@ Within false p q = p ≤ℤ q
 pub record Ahead (above : Bool) (p q : ℤ) (r : Bool) : Type 0 where
   pub yes : r ≡ true → Within above p q
   pub no : r ≡ false → Within above q p
+
+-- Row r is i or k, and neither is farther.
+pub record Farther (above : Bool) (xs : List ℤ) (i k r : ℕ) : Type 0 where
+  pub one : (r ≡ i) ⊎ (r ≡ k)
+  pub as-i : Within above (getD xs r (pos 0)) (getD xs i (pos 0))
+  pub as-k : Within above (getD xs r (pos 0)) (getD xs k (pos 0))
 
 -- Of the rows from first to end none is farther than row r.
 pub record Extreme (above : Bool) (xs : List ℤ) (first end r : ℕ) : Type 0 where

@@ -2,7 +2,7 @@
 ghost use Prim.Native.Nat.{_<_, _≤_};
 ghost use lib.ListN.{length};
 ghost use Rattle.matching.specs.Definitions.Columns.{Inside};
-ghost use Rattle.bounds.specs.Boxes.{Ahead, Extreme, Clamped, Clear};
+ghost use Rattle.bounds.specs.Boxes.{Ahead, Farther, Extreme, Clamped, Clear};
 
 // Whether p is ahead of q: above it, or below it.
 fn ahead(above: bool, p: i16, q: i16) -> bool
@@ -17,6 +17,7 @@ fn ahead(above: bool, p: i16, q: i16) -> bool
 // Of two rows the one whose position is ahead.
 fn farther(above: bool, xs: &[i16], i: usize, k: usize) -> usize
     requires { ⌜ (i < length (now xs)) × (k < length (now xs)) ⌝ }
+    ensures { λ r. ⌜ Farther above (now (xs .entry)) i k r ⌝ }
 {
     if ahead(above, xs[k], xs[i]) {
         return k;

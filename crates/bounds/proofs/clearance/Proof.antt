@@ -1,27 +1,67 @@
+-- `bounds::clearance` meets its contract: along each axis the clamped position is nearest, and stays inside. Assumes nothing.
+use Prim.Native.Nat.{_≤_}
+use mathlib.Core.Path.{_≡_}
+use native.Mathlib.Nat.{mul-le-mul}
+use native.Mathlib.Omega.{arith}
+use lib.IntN.{ℤ, pos, negsuc, natAbs}
 use borrow.Author.Needs.{needs}
+use mir.Syntax.{w16}
+use mir.Val.{toZ, ofZ, SFits}
+use mir.Facts.{toZ-ofZ}
+use Rattle.matching.specs.Definitions.Pairs.{squaredDistance}
+use Rattle.matching.specs.Definitions.Columns.{Inside, Reach}
+use Rattle.matching.specs.Laws.Distance.{inside-reach, distance-fits}
+use Rattle.bounds.specs.Boxes.{Clamped}
 use Rattle.bounds.proofs.clearance.Statement.{statement}
 use Rattle.bounds.proofs.clearance.Tie as tie
-use Rattle.bounds.proofs.clearance.Reads as reads
-use Rattle.bounds.proofs.clearance.Lts as lts
-use Rattle.bounds.proofs.clamp.Reads as clamp-reads
-use Rattle.matching.proofs.squared_distance.Reads as squared-distance-reads
 
--- src/lib.rt:59:38
 clamp-requires : tie.Need-clamp-requires
 clamp-requires c κs = search needs
 
--- src/lib.rt:59:61
 clamp-requires-2 : tie.Need-clamp-requires-2
 clamp-requires-2 c κs = search needs
 
--- src/lib.rt:59:5
-squared-distance-requires : tie.Need-squared-distance-requires
-squared-distance-requires c κs = ?
+-- a position inside is read back from its 16 bits
+back : (z : ℤ) → natAbs z ≤ 24576 → toZ w16 (ofZ w16 z) ≡ z
+back z h = toZ-ofZ (fits z h)
+  where
+    fits : (z : ℤ) → natAbs z ≤ 24576 → SFits w16 z
+    fits (pos n) h = record { sfits = omega arith }
+    fits (negsuc n) h = record { sfits = omega arith }
 
--- src/lib.rt:55:1
+-- along each axis
+across : (c : tie.After-clamp2) → let s = c .before .before .args in Clamped (s .x) (s .left) (s .right) (c .before .clamp .result)
+across c = let f = c .before .before .fits in rw (toZ-ofZ (f .x), toZ-ofZ (f .left), toZ-ofZ (f .right)) at (c .before .clamp .ensures)
+
+up : (c : tie.After-clamp2) → let s = c .before .before .args in Clamped (s .y) (s .low) (s .high) (c .clamp2 .result)
+up c = let f = c .before .before .fits in rw (toZ-ofZ (f .y), toZ-ofZ (f .low), toZ-ofZ (f .high)) at (c .clamp2 .ensures)
+
+held : (c : tie.After-clamp2) → Inside (c .before .clamp .result) (c .clamp2 .result)
+held c = let p = c .before .before .pre in (across c .small 24576 (p .0 .0) (p .1 .0) (p .2 .0), up c .small 16384 (p .0 .1) (p .1 .1) (p .2 .1))
+
+reach : (c : tie.After-clamp2) → let s = c .before .before .args in Reach (s .x) (s .y) (c .before .clamp .result) (c .clamp2 .result)
+reach c = let s = c .before .before .args in inside-reach (s .x) (s .y) (c .before .clamp .result) (c .clamp2 .result) (c .before .before .pre .0) (held c)
+
+squared-distance-requires : tie.Need-squared-distance-requires
+squared-distance-requires c κs =
+    let f = c .before .before .fits in
+    let i = held c in
+    rw (toZ-ofZ (f .x), toZ-ofZ (f .y), back (c .before .clamp .result) (i .0), back (c .clamp2 .result) (omega arith)) (reach c)
+
+is : (c : tie.After-squared-distance) → let s = c .before .before .before .args in c .squared-distance .result ≡ squaredDistance (s .x) (s .y) (c .before .before .clamp .result) (c .before .clamp2 .result)
+is c =
+    let f = c .before .before .before .fits in
+    let i = held (c .before) in
+    rw (toZ-ofZ (f .x), toZ-ofZ (f .y), back (c .before .before .clamp .result) (i .0), back (c .before .clamp2 .result) (omega arith)) at (c .squared-distance .ensures)
+
 returns : tie.Need-returns
-returns c = ?
+returns c = let s = c .before .before .before .args in record {
+  small = rw (is c) (distance-fits (s .x) (s .y) (c .before .before .clamp .result) (c .before .clamp2 .result) (reach (c .before)));
+  nearest = λ u v a b d e.
+      let h = across (c .before) .nearest u a b in
+      let k = up (c .before) .nearest v d e in
+      rw (is c) (omega (arith, mul-le-mul h h, mul-le-mul k k));
+}
 
 pub clearance-spec : {M : Type 1} → statement M
-clearance-spec =
-    tie.close (tie.spec clamp-requires clamp-requires-2 squared-distance-requires returns)
+clearance-spec = tie.close (tie.spec clamp-requires clamp-requires-2 squared-distance-requires returns)

@@ -1,53 +1,39 @@
+-- `bounds::extreme` meets its contract: of the rows passed, none is farther than the one kept. Assumes nothing.
+use Prim.Native.Nat.{_-_, _≤_}
+use mathlib.Core.Path.{_≡_}
+use native.Mathlib.Omega.{arith}
+use borrow.Author.Needs.{needs}
+use Rattle.bounds.specs.Boxes.{Extreme}
+use Rattle.bounds.proofs.Laws.Places.{extreme-start, extreme-on}
 use Rattle.bounds.proofs.extreme.Statement.{statement}
 use Rattle.bounds.proofs.extreme.Tie as tie
-use Rattle.bounds.proofs.extreme.Reads as reads
-use Rattle.bounds.proofs.extreme.Lts as lts
-use Rattle.bounds.proofs.farther.Reads as farther-reads
 
 abbrev Inv-loop : tie.InvT-loop
-Inv-loop above xs first end at₀ k₀ at k = ?
+Inv-loop above xs first end at₀ k₀ at k = (k ≤ end) × Extreme above xs first k at
 
 abbrev μ-loop : tie.MeasureT-loop
-μ-loop above xs first end at₀ k₀ at k = ?
+μ-loop above xs first end at₀ k₀ at k = end - k
 
--- src/lib.rt:33:17
 add-k : tie.Need-add-k Inv-loop μ-loop
-add-k c = ?
+add-k c = search needs
 
--- src/lib.rt:34:5
 loop-holds : tie.Need-loop-holds Inv-loop μ-loop
-loop-holds c = ?
+loop-holds c = (omega arith, extreme-start _ _ _)
 
--- src/lib.rt:35:9
 farther-requires : tie.Need-farther-requires Inv-loop μ-loop
-farther-requires c κs = ?
+farther-requires c κs = let i = c .before .loop .inv in (omega (arith, i .1 .to), omega arith)
 
--- src/lib.rt:36:9
 add-k-2 : tie.Need-add-k-2 Inv-loop μ-loop
-add-k-2 c = ?
+add-k-2 c = search needs
 
--- src/lib.rt:34:5
 loop-less : tie.Need-loop-less Inv-loop μ-loop
-loop-less c = ?
+loop-less c = search needs
 
--- src/lib.rt:34:5
 loop-again : tie.Need-loop-again Inv-loop μ-loop
-loop-again c = ?
+loop-again c = let i = c .before .before .loop .inv in (omega arith, extreme-on _ _ _ _ _ _ (i .1) (c .farther .ensures))
 
--- src/lib.rt:28:1
 returns : tie.Need-returns Inv-loop μ-loop
-returns c = ?
+returns c = let i = c .before .loop .inv in let e : c .before .loop .k ≡ c .before .before .args .end = omega arith in rw e at (i .1)
 
 pub extreme-spec : {M : Type 1} → statement M
-extreme-spec =
-    tie.close
-    (tie.spec
-    Inv-loop
-    μ-loop
-    add-k
-    loop-holds
-    farther-requires
-    add-k-2
-    loop-less
-    loop-again
-    returns)
+extreme-spec = tie.close (tie.spec Inv-loop μ-loop add-k loop-holds farther-requires add-k-2 loop-less loop-again returns)
