@@ -2,3 +2,4 @@
 pub mod Limits
 pub mod Links
 pub mod Whole
+pub mod Blocks

@@ -3,3 +3,4 @@ pub mod Sizes
 pub mod Rows
 pub mod Limits
 pub mod Open
+pub mod Blocks

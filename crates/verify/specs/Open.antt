@@ -19,6 +19,10 @@ pub record Ruled (ns : List ℕ) (xs ys : List ℤ) (far high : List ℕ) (i : �
   pub in-f : i < length far
   pub in-h : i < length high
 
+-- A pair d apart is not ahead of both limits: one node has the number m and the limit (f, g), the other n and (h, k).
+abbrev pub Closed : ℕ → ℕ → ℕ → ℕ → ℕ → ℕ → ℕ → Type 0
+Closed d m f g n h k = d + late n g ≤ f → d + late m k ≤ h → ⊥
+
 -- The pair of A's place i and B's place j is not ahead of both limits.
 abbrev pub Shut : List ℕ → List ℤ → List ℤ → List ℕ → List ℕ → List ℕ → List ℤ → List ℤ → List ℕ → List ℕ → ℕ → ℕ → Type 0
 Shut an ax ay af ah bn bx by bf bh i j =

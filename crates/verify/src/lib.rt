@@ -1,4 +1,5 @@
-// Whether links are the join of two masters, told without joining them anew: in one pass over the rows and one over all pairs.
+// Whether links are the join of two masters, told without joining them anew: in one pass over the rows and one over the pairs.
+mod blocks;
 mod limits;
 mod open;
 mod rows;

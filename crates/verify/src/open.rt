@@ -1,10 +1,13 @@
-// One pass over all pairs: is one of them ahead of the limits of both its nodes? Then it is missing among the links.
+// One pass over the pairs, B's block by block: is one of them ahead of the limits of both its nodes? Then it is missing among the links.
+use super::blocks;
+use super::blocks::Block;
 ghost use Prim.Native.Nat.{ℕ, _+_, _≤_, _<_};
 ghost use mathlib.Core.Path.{_≡_};
 ghost use mathlib.Core.Bool.{false};
 ghost use lib.ListN.{length};
 ghost use Rattle.join.specs.Sizes.{masterRows};
 ghost use Rattle.verify.specs.Open.{late as lateOf, Ruled, Shut};
+ghost use Rattle.verify.specs.Blocks.{Encloses};
 
 // 0 where n is below o, else 1: added to a distance it settles ties, without a branch.
 fn late(n: u32, o: u32) -> u32
@@ -47,9 +50,11 @@ fn open_at(
     both(p, af[i], q, bf[j])
 }
 
-// How many pairs of A's place i are.
+// How many pairs of A's place i and B's places from first to end are.
 fn open_row(
     i: usize,
+    first: usize,
+    end: usize,
     an: &[u32],
     ax: &[i16],
     ay: &[i16],
@@ -61,16 +66,72 @@ fn open_row(
     bf: &[u32],
     bh: &[u32],
 ) -> u32
-    requires { ⌜ Ruled (now an) (now ax) (now ay) (now af) (now ah) i × ((j : ℕ) → j < length (now bn) → Ruled (now bn) (now bx) (now by) (now bf) (now bh) j) × (length (now bn) ≤ masterRows) ⌝ }
-    ensures { λ r. ⌜ (r ≡ 0 → (j : ℕ) → j < length (now (bn .entry)) → Shut (now (an .entry)) (now (ax .entry)) (now (ay .entry)) (now (af .entry)) (now (ah .entry)) (now (bn .entry)) (now (bx .entry)) (now (by .entry)) (now (bf .entry)) (now (bh .entry)) i j) ⌝ }
+    requires { ⌜ Ruled (now an) (now ax) (now ay) (now af) (now ah) i × ((j : ℕ) → j < length (now bn) → Ruled (now bn) (now bx) (now by) (now bf) (now bh) j) × (end ≤ length (now bn)) × (length (now bn) ≤ masterRows) ⌝ }
+    ensures { λ r. ⌜ (r ≡ 0 → (j : ℕ) → first ≤ j → j < end → Shut (now (an .entry)) (now (ax .entry)) (now (ay .entry)) (now (af .entry)) (now (ah .entry)) (now (bn .entry)) (now (bx .entry)) (now (by .entry)) (now (bf .entry)) (now (bh .entry)) i j) ⌝ }
 {
     let mut count = 0;
-    let mut j = 0;
-    while j < bn.len() {
+    let mut j = first;
+    while j < end {
         count += open_at(i, j, an, ax, ay, af, ah, bn, bx, by, bf, bh);
         j += 1;
     }
     count
+}
+
+// Some pair of A's place i and the block of B's places from first to end is.
+fn open_in(
+    i: usize,
+    block: Block,
+    first: usize,
+    end: usize,
+    an: &[u32],
+    ax: &[i16],
+    ay: &[i16],
+    af: &[u32],
+    ah: &[u32],
+    bn: &[u32],
+    bx: &[i16],
+    by: &[i16],
+    bf: &[u32],
+    bh: &[u32],
+) -> bool
+    requires { ⌜ Ruled (now an) (now ax) (now ay) (now af) (now ah) i × ((j : ℕ) → j < length (now bn) → Ruled (now bn) (now bx) (now by) (now bf) (now bh) j) × (end ≤ length (now bn)) × (length (now bn) ≤ masterRows) ⌝ }
+    requires { ⌜ Encloses (now bn) (now bx) (now by) (now bf) (now bh) first end block ⌝ }
+    ensures { λ r. ⌜ (r ≡ false → (j : ℕ) → first ≤ j → j < end → Shut (now (an .entry)) (now (ax .entry)) (now (ay .entry)) (now (af .entry)) (now (ah .entry)) (now (bn .entry)) (now (bx .entry)) (now (by .entry)) (now (bf .entry)) (now (bh .entry)) i j) ⌝ }
+{
+    if blocks::is_past(i, block, an, ax, ay, af, ah) {
+        return false;
+    }
+    open_row(i, first, end, an, ax, ay, af, ah, bn, bx, by, bf, bh) != 0
+}
+
+// Some pair of B's places from first to end is.
+fn open_block(
+    first: usize,
+    end: usize,
+    an: &[u32],
+    ax: &[i16],
+    ay: &[i16],
+    af: &[u32],
+    ah: &[u32],
+    bn: &[u32],
+    bx: &[i16],
+    by: &[i16],
+    bf: &[u32],
+    bh: &[u32],
+) -> bool
+    requires { ⌜ ((i : ℕ) → i < length (now an) → Ruled (now an) (now ax) (now ay) (now af) (now ah) i) × ((j : ℕ) → j < length (now bn) → Ruled (now bn) (now bx) (now by) (now bf) (now bh) j) × (first < end) × (end ≤ length (now bn)) × (length (now bn) ≤ masterRows) ⌝ }
+    ensures { λ r. ⌜ (r ≡ false → (i : ℕ) → i < length (now (an .entry)) → (j : ℕ) → first ≤ j → j < end → Shut (now (an .entry)) (now (ax .entry)) (now (ay .entry)) (now (af .entry)) (now (ah .entry)) (now (bn .entry)) (now (bx .entry)) (now (by .entry)) (now (bf .entry)) (now (bh .entry)) i j) ⌝ }
+{
+    let block = blocks::enclose(first, end, bn, bx, by, bf, bh);
+    let mut i = 0;
+    while i < an.len() {
+        if open_in(i, block, first, end, an, ax, ay, af, ah, bn, bx, by, bf, bh) {
+            return true;
+        }
+        i += 1;
+    }
+    false
 }
 
 // Some pair is.
@@ -89,12 +150,13 @@ pub fn any_open(
     requires { ⌜ ((i : ℕ) → i < length (now an) → Ruled (now an) (now ax) (now ay) (now af) (now ah) i) × ((j : ℕ) → j < length (now bn) → Ruled (now bn) (now bx) (now by) (now bf) (now bh) j) × (length (now bn) ≤ masterRows) ⌝ }
     ensures { λ r. ⌜ (r ≡ false → (i j : ℕ) → i < length (now (an .entry)) → j < length (now (bn .entry)) → Shut (now (an .entry)) (now (ax .entry)) (now (ay .entry)) (now (af .entry)) (now (ah .entry)) (now (bn .entry)) (now (bx .entry)) (now (by .entry)) (now (bf .entry)) (now (bh .entry)) i j) ⌝ }
 {
-    let mut i = 0;
-    while i < an.len() {
-        if open_row(i, an, ax, ay, af, ah, bn, bx, by, bf, bh) != 0 {
+    let mut first = 0;
+    while first < bn.len() {
+        let end = blocks::end(first, bn.len());
+        if open_block(first, end, an, ax, ay, af, ah, bn, bx, by, bf, bh) {
             return true;
         }
-        i += 1;
+        first = end;
     }
     false
 }

@@ -4,3 +4,6 @@ pub const NODES: usize = 512;
 
 // The limit of a node that has something left: every distance is below it.
 pub const FREE: u32 = 4294967295;
+
+// The rows of a block.
+pub const BLOCK: usize = 32;

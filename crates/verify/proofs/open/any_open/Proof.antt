@@ -1,41 +1,41 @@
--- `open::any_open` meets its contract: the pairs of the places before i are shut. Assumes nothing.
-use borrow.Author.Needs.{needs}
+-- `open::any_open` meets its contract: the pairs of B's places before first are shut. Assumes nothing.
+use Rattle.verify.proofs.Laws.Blocks.{block-more}
 use Rattle.verify.specs.Open.{Shut}
-use borrow.Author.Count.{below-none, below-more}
+use borrow.Author.Count.{below-none}
 use lib.ListN.{length}
 use native.Mathlib.Omega.{arith}
 use mathlib.Core.Bool.{false≢true}
 use mathlib.Core.Path.{sym}
-use Prim.Native.Nat.{ℕ, _-_, _≤_, _<_}
+use Prim.Native.Nat.{ℕ, _-_, _<_}
 use Rattle.verify.proofs.open.any_open.Statement.{statement}
 use Rattle.verify.proofs.open.any_open.Tie as tie
 
 abbrev Inv-loop : tie.InvT-loop
-Inv-loop an ax ay af ah bn bx by bf bh i₀ i = (i ≤ length an) × ((k : ℕ) → k < i → (j : ℕ) → j < length bn → Shut an ax ay af ah bn bx by bf bh k j)
+Inv-loop an ax ay af ah bn bx by bf bh first₀ first = (i : ℕ) → i < length an → (j : ℕ) → j < first → Shut an ax ay af ah bn bx by bf bh i j
 
 abbrev μ-loop : tie.MeasureT-loop
-μ-loop an ax ay af ah bn bx by bf bh i₀ i = length an - i
+μ-loop an ax ay af ah bn bx by bf bh first₀ first = length bn - first
 
 loop-holds : tie.Need-loop-holds Inv-loop μ-loop
-loop-holds c = (omega arith, below-none _)
+loop-holds c = λ i h. below-none _
 
-open-row-requires : tie.Need-open-row-requires Inv-loop μ-loop
-open-row-requires c κs = (c .before .before .before .before .before .before .before .before .pre .0 (c .before .loop .i) (c .loop-test .taken), c .before .before .before .before .before .before .before .before .pre .1, c .before .before .before .before .before .before .before .before .pre .2)
+end-requires : tie.Need-end-requires Inv-loop μ-loop
+end-requires c κs = c .loop-test .taken
+
+open-block-requires : tie.Need-open-block-requires Inv-loop μ-loop
+open-block-requires c κs = let p = c .before .before .before .before .before .before .before .before .before .pre in (p .0, p .1, c .end .ensures .0, c .end .ensures .1, p .2)
 
 returns : tie.Need-returns Inv-loop μ-loop
 returns c = λ h. absurd (false≢true (sym h))
 
-add-i : tie.Need-add-i Inv-loop μ-loop
-add-i c = search needs
-
 loop-less : tie.Need-loop-less Inv-loop μ-loop
-loop-less c = search needs
+loop-less c = omega arith
 
 loop-again : tie.Need-loop-again Inv-loop μ-loop
-loop-again c = (omega arith, below-more _ _ (c .before .before .before .loop .inv .1) (c .before .open-row .ensures (c .if1 .left)))
+loop-again c = λ i h. block-more _ _ _ (c .before .before .before .before .loop .inv i h) (c .before .open-block .ensures (c .if1 .left) i h)
 
 returns-2 : tie.Need-returns-2 Inv-loop μ-loop
-returns-2 c = λ w i j h g. c .before .loop .inv .1 i (omega arith) j g
+returns-2 c = λ w i j h g. c .before .loop .inv i h j (omega arith)
 
 pub any-open-spec : {M : Type 1} → statement M
 any-open-spec =
@@ -44,9 +44,9 @@ any-open-spec =
     Inv-loop
     μ-loop
     loop-holds
-    open-row-requires
+    end-requires
+    open-block-requires
     returns
-    add-i
     loop-less
     loop-again
     returns-2)

@@ -1,0 +1,120 @@
+// Blocks of rows that follow each other: a row that is past a whole block is told without a look at the block's rows.
+use crate::sizes;
+use join::nearest::pack;
+ghost use Prim.Native.Nat.{ℕ, _+_, _*_, _≤_, _<_};
+ghost use mathlib.Core.Path.{_≡_};
+ghost use mathlib.Core.Bool.{true};
+ghost use lib.IntN.{ℤ, pos};
+ghost use lib.ListN.{length, getD};
+ghost use Rattle.matching.specs.Definitions.Pairs.{squaredDistance};
+ghost use Rattle.join.specs.Sizes.{numberRange};
+ghost use Rattle.verify.specs.Open.{Ruled, Closed};
+ghost use Rattle.verify.specs.Blocks.{Inner, Holds, Encloses};
+
+// A box around the positions of some rows, their least number, and the greatest key among their limits.
+pub struct Block {
+    pub left: i16,
+    pub right: i16,
+    pub bottom: i16,
+    pub top: i16,
+    pub least: u32,
+    pub limit: u64,
+}
+
+// Where the block that begins at first ends.
+pub fn end(first: usize, rows: usize) -> usize
+    requires { ⌜ first < rows ⌝ }
+    ensures { λ r. ⌜ (first < r) × (r ≤ rows) ⌝ }
+{
+    if rows - first < sizes::BLOCK {
+        return rows;
+    }
+    first + sizes::BLOCK
+}
+
+fn lesser(m: u32, n: u32) -> u32
+    ensures { λ r. ⌜ (r ≤ m) × (r ≤ n) ⌝ }
+{
+    if m < n { m } else { n }
+}
+
+fn greater(p: u64, q: u64) -> u64
+    ensures { λ r. ⌜ (p ≤ r) × (q ≤ r) ⌝ }
+{
+    if p < q { q } else { p }
+}
+
+// The least number of the rows from first to end.
+fn least(ns: &[u32], first: usize, end: usize) -> u32
+    requires { ⌜ (first < end) × (end ≤ length (now ns)) ⌝ }
+    ensures { λ r. ⌜ ((k : ℕ) → first ≤ k → k < end → r ≤ getD (now (ns .entry)) k 0) ⌝ }
+{
+    let mut n = ns[first];
+    let mut k = first;
+    while k < end {
+        n = lesser(n, ns[k]);
+        k += 1;
+    }
+    n
+}
+
+// The greatest key among the limits of the rows from first to end.
+fn limit(far: &[u32], high: &[u32], first: usize, end: usize) -> u64
+    requires { ⌜ (first < end) × (end ≤ length (now far)) × (end ≤ length (now high)) ⌝ }
+    ensures { λ r. ⌜ ((k : ℕ) → first ≤ k → k < end → getD (now (far .entry)) k 0 * numberRange + getD (now (high .entry)) k 0 ≤ r) ⌝ }
+{
+    let mut p = 0;
+    let mut k = first;
+    while k < end {
+        p = greater(p, pack(far[k], high[k]));
+        k += 1;
+    }
+    p
+}
+
+// The block of the rows from first to end.
+pub fn enclose(
+    first: usize,
+    end: usize,
+    ns: &[u32],
+    xs: &[i16],
+    ys: &[i16],
+    far: &[u32],
+    high: &[u32],
+) -> Block
+    requires { ⌜ (first < end) × (end ≤ length (now ns)) × ((k : ℕ) → k < length (now ns) → Ruled (now ns) (now xs) (now ys) (now far) (now high) k) ⌝ }
+    ensures { λ r. ⌜ Encloses (now (ns .entry)) (now (xs .entry)) (now (ys .entry)) (now (far .entry)) (now (high .entry)) first end r ⌝ }
+{
+    let l = bounds::extreme(false, xs, first, end);
+    let r = bounds::extreme(true, xs, first, end);
+    let b = bounds::extreme(false, ys, first, end);
+    let t = bounds::extreme(true, ys, first, end);
+    Block {
+        left: xs[l],
+        right: xs[r],
+        bottom: ys[b],
+        top: ys[t],
+        least: least(ns, first, end),
+        limit: limit(far, high, first, end),
+    }
+}
+
+// Place i is past the block: each pair of the two is at or past the limit of place i, or each is at or past that of its row.
+pub fn is_past(
+    i: usize,
+    s: Block,
+    ns: &[u32],
+    xs: &[i16],
+    ys: &[i16],
+    far: &[u32],
+    high: &[u32],
+) -> bool
+    requires { ⌜ Ruled (now ns) (now xs) (now ys) (now far) (now high) i × Inner s ⌝ }
+    ensures { λ r. ⌜ (r ≡ true → (u v : ℤ) (n f h : ℕ) → Holds s u v n f h → Closed (squaredDistance (getD (now (xs .entry)) i (pos 0)) (getD (now (ys .entry)) i (pos 0)) u v) (getD (now (ns .entry)) i 0) (getD (now (far .entry)) i 0) (getD (now (high .entry)) i 0) n f h) ⌝ }
+{
+    let d = bounds::clearance(xs[i], ys[i], s.left, s.right, s.bottom, s.top);
+    if pack(d, s.least) >= pack(far[i], high[i]) {
+        return true;
+    }
+    pack(d, ns[i]) >= s.limit
+}
