@@ -4,11 +4,15 @@ use mathlib.Core.Path.{_≡_}
 use mathlib.Core.Bool.{Bool, true, cond}
 use mathlib.Core.Option.{none, some}
 use mathlib.Core.List.{List}
-use lib.ListN.{length}
-use Rattle.tables.specs.Definitions.Sizes.{tableSize, linkRows, listSize}
+use lib.IntN.{ℤ}
+use lib.ListN.{length, take}
+use Rattle.matching.specs.Definitions.Nodes.{Unique, Reordered}
+use Rattle.matching.specs.Definitions.Columns.{nodesOf}
+use Rattle.tables.specs.Definitions.Sizes.{tableSize, nodeRows, linkRows, listSize}
 use Rattle.tables.specs.Definitions.Tables.{nodesIn, firstFault}
 use Rattle.tables.specs.Definitions.Lists.{finished, firstDifference, zeroFrom}
-use Rattle.join.specs.Contract.{Joined}
+use Rattle.tables.specs.Laws.Decode.{Rooms}
+use Rattle.join.specs.Contract.{Fit, Joined}
 use Rattle.contract.specs.declared.Answer.{Answer}
 use Rattle.contract.specs.declared.Answer.the-variants.{Done, WrongLength, FaultyA, FaultyB, DamagedList, UnfinishedList, BadKind, BadMaster, BadField, BadNumber, TableFull}
 use Rattle.contract.specs.Definitions.Requests.{Request, lengthsOf}
@@ -21,6 +25,14 @@ pub record Sound (a b : List ℕ) : Type 0 where
   pub size-b : length b ≡ tableSize
   pub fault-a : firstFault a ≡ none
   pub fault-b : firstFault b ≡ none
+
+-- The first n rows of the columns are the table's nodes, in some order, and fit for the join.
+pub record Loaded (t ns : List ℕ) (xs ys : List ℤ) (ks : List ℕ) (n : ℕ) : Type 0 where
+  pub rooms : Rooms ns xs ys ks
+  pub within : n ≤ nodeRows
+  pub fit : Fit (take n ns) (take n xs) (take n ys) (take n ks)
+  pub unique : Unique (nodesIn t)
+  pub nodes : Reordered (nodesIn t) (nodesOf (take n ns) (take n xs) (take n ys) (take n ks))
 
 -- Link columns of one length, at most that of a list.
 pub record Even (la lb ld lm : List ℕ) : Type 0 where

@@ -9,8 +9,8 @@ ghost use Rattle.tables.specs.Definitions.Sizes.{tableSize};
 ghost use Rattle.tables.specs.Definitions.Tables.{nodesIn, firstFault};
 ghost use Rattle.join.specs.Contract.{Fit};
 ghost use Rattle.pairing.specs.Verdicts.{Sound, Even};
+use super::load::load;
 use tables::lookup::locate;
-use tables::nodes::decode;
 use tables::sizes::LINKS;
 use tables::sizes::NODES;
 
@@ -36,7 +36,7 @@ fn beside(
     let mut xs = [0i16; NODES];
     let mut ys = [0i16; NODES];
     let mut ks = [0u32; NODES];
-    let n = decode(b, &mut ns, &mut xs, &mut ys, &mut ks);
+    let n = load(b, &mut ns, &mut xs, &mut ys, &mut ks);
     let mut ib = [0u16; LINKS];
     let m = lb.len();
     locate(&ns[..n], lb, &mut ib);
@@ -67,7 +67,7 @@ pub fn all(a: &[u8], b: &[u8], la: &[u32], lb: &[u32], ld: &[u32], lm: &[u32]) -
     let mut xs = [0i16; NODES];
     let mut ys = [0i16; NODES];
     let mut ks = [0u32; NODES];
-    let n = decode(a, &mut ns, &mut xs, &mut ys, &mut ks);
+    let n = load(a, &mut ns, &mut xs, &mut ys, &mut ks);
     let mut ia = [0u16; LINKS];
     let m = la.len();
     locate(&ns[..n], la, &mut ia);

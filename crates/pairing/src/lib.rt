@@ -7,6 +7,7 @@ mod bands;
 mod check;
 mod edit;
 mod links;
+mod load;
 mod pair;
 mod spare;
 mod step;

@@ -1,63 +1,65 @@
 -- `pairing::check::all` meets its contract: the columns of a sound table are fit for the check. Assumes nothing.
-use Rattle.pairing.specs.Laws.Fit.{decoded-long, decoded-nodes, decoded-fit}
+use Rattle.tables.specs.Definitions.Tables.{nodesIn}
+use Rattle.tables.specs.Laws.Accepted.{nodes-good}
+use Rattle.pairing.specs.Laws.Fit.{loaded-long, loaded-a}
 use Rattle.tables.specs.Laws.ListRead.{bytes-known}
 use lib.Seq.{length-take-le}
 use native.Mathlib.Omega.{arith}
-use mathlib.Core.Path.{sym}
+use mathlib.Core.Path.{sym, _∙_}
 use borrow.Author.Needs.{needs}
 use Rattle.pairing.proofs.check.all.Statement.{statement}
 use Rattle.pairing.proofs.check.all.Tie as tie
 
-slice-aggregate-decode : tie.Need-slice-aggregate-decode
-slice-aggregate-decode c = search needs
+slice-aggregate-load : tie.Need-slice-aggregate-load
+slice-aggregate-load c = search needs
 
-slice-aggregate-decode-2 : tie.Need-slice-aggregate-decode-2
-slice-aggregate-decode-2 c = search needs
+slice-aggregate-load-2 : tie.Need-slice-aggregate-load-2
+slice-aggregate-load-2 c = search needs
 
-slice-aggregate-decode-3 : tie.Need-slice-aggregate-decode-3
-slice-aggregate-decode-3 c = search needs
+slice-aggregate-load-3 : tie.Need-slice-aggregate-load-3
+slice-aggregate-load-3 c = search needs
 
-slice-aggregate-decode-4 : tie.Need-slice-aggregate-decode-4
-slice-aggregate-decode-4 c = search needs
+slice-aggregate-load-4 : tie.Need-slice-aggregate-load-4
+slice-aggregate-load-4 c = search needs
 
-decode-requires : tie.Need-decode-requires
-decode-requires c κs = search needs
+load-requires : tie.Need-load-requires
+load-requires c κs = search needs
 
 array-share-prefix-ns : tie.Need-array-share-prefix-ns
 array-share-prefix-ns c = search needs
 
 slice-aggregate-locate : tie.Need-slice-aggregate-locate
-slice-aggregate-locate c = let d = c .before .before .before .before .before .decode .ensures in sym (length-take-le _ _ (omega (arith, d .within, d .rooms .0)))
+slice-aggregate-locate c = let d = c .before .before .before .before .before .load .ensures in sym (length-take-le _ _ (omega (arith, d .within, d .rooms .0)))
 
 slice-aggregate-locate-2 : tie.Need-slice-aggregate-locate-2
 slice-aggregate-locate-2 c = search needs
 
 locate-requires : tie.Need-locate-requires
-locate-requires c κs = let d = c .before .before .before .before .before .before .decode .ensures in (omega (arith, decoded-long _ _ _ _ _ _ d, d .within), c .before .before .before .before .before .before .before .before .before .before .before .before .before .before .before .before .before .pre .1 .most, omega arith)
+locate-requires c κs = let d = c .before .before .before .before .before .before .load .ensures in (omega (arith, loaded-long d, d .within), c .before .before .before .before .before .before .before .before .before .before .before .before .before .before .before .before .before .pre .1 .most, omega arith)
 
 array-share-prefix-ns-2 : tie.Need-array-share-prefix-ns-2
 array-share-prefix-ns-2 c = search needs
 
 slice-aggregate-beside : tie.Need-slice-aggregate-beside
-slice-aggregate-beside c = let d = c .before .before .before .before .before .before .before .before .before .decode .ensures in sym (length-take-le _ _ (omega (arith, d .within, d .rooms .0)))
+slice-aggregate-beside c = let d = c .before .before .before .before .before .before .before .before .before .load .ensures in sym (length-take-le _ _ (omega (arith, d .within, d .rooms .0)))
 
 array-share-prefix-xs : tie.Need-array-share-prefix-xs
 array-share-prefix-xs c = search needs
 
 slice-aggregate-beside-2 : tie.Need-slice-aggregate-beside-2
-slice-aggregate-beside-2 c = let d = c .before .before .before .before .before .before .before .before .before .before .decode .ensures in sym (length-take-le _ _ (omega (arith, d .within, d .rooms .1)))
+slice-aggregate-beside-2 c = let d = c .before .before .before .before .before .before .before .before .before .before .load .ensures in sym (length-take-le _ _ (omega (arith, d .within, d .rooms .1)))
 
 array-share-prefix-ys : tie.Need-array-share-prefix-ys
 array-share-prefix-ys c = search needs
 
 slice-aggregate-beside-3 : tie.Need-slice-aggregate-beside-3
-slice-aggregate-beside-3 c = let d = c .before .before .before .before .before .before .before .before .before .before .before .decode .ensures in sym (length-take-le _ _ (omega (arith, d .within, d .rooms .2)))
+slice-aggregate-beside-3 c = let d = c .before .before .before .before .before .before .before .before .before .before .before .load .ensures in sym (length-take-le _ _ (omega (arith, d .within, d .rooms .2)))
 
 array-borrow-prefix-ks : tie.Need-array-borrow-prefix-ks
 array-borrow-prefix-ks c = search needs
 
 slice-aggregate-beside-4 : tie.Need-slice-aggregate-beside-4
-slice-aggregate-beside-4 c = let d = c .before .before .before .before .before .before .before .before .before .before .before .before .decode .ensures in sym (length-take-le _ _ (omega (arith, d .within, d .rooms .3)))
+slice-aggregate-beside-4 c = let d = c .before .before .before .before .before .before .before .before .before .before .before .before .load .ensures in sym (length-take-le _ _ (omega (arith, d .within, d .rooms .3)))
 
 array-share-prefix-ia : tie.Need-array-share-prefix-ia
 array-share-prefix-ia c = omega (arith, c .before .before .before .before .before .before .before .before .before .before .before .before .before .before .before .before .before .before .before .before .before .before .before .pre .1 .most, c .before .before .before .before .before .locate .ensures)
@@ -67,24 +69,26 @@ slice-aggregate-beside-5 c = sym (length-take-le _ _ (omega (arith, c .before .b
 
 beside-requires : tie.Need-beside-requires
 beside-requires c κs =
-    let s = c .before .before .before .before .before .before .before .before .before .before .before .before .before .before .before .before .before .before .before .before .before .before .before .before .pre .0 in
-    let a = c .before .before .before .before .before .before .before .before .before .before .before .before .before .before .before .before .before .before .before .before .before .before .before .before .args .a .now in (
-      (decoded-fit _ _ _ _ _ _ (c .before .before .before .before .before .before .before .before .before .before .before .before .before .decode .ensures) (record { bytes = bytes-known a (c .before .before .before .before .before .before .before .before .before .before .before .before .before .before .before .before .before .before .before .before .before .before .before .shared-slice-known .given); size = s .size-a; faultless = s .fault-a }), length-take-le _ _ (omega (arith, c .before .before .before .before .before .before .before .before .before .before .before .before .before .before .before .before .before .before .before .before .before .before .before .before .pre .1 .most, c .before .before .before .before .before .before .locate .ensures))),
+    let s = c .before .before .before .before .before .before .before .before .before .before .before .before .before .before .before .before .before .before .before .before .before .before .before .before .pre .0 in (
+      (c .before .before .before .before .before .before .before .before .before .before .before .before .before .load .ensures .fit, length-take-le _ _ (omega (arith, c .before .before .before .before .before .before .before .before .before .before .before .before .before .before .before .before .before .before .before .before .before .before .before .before .pre .1 .most, c .before .before .before .before .before .before .locate .ensures))),
       ((s .size-b, s .fault-b), c .before .before .before .before .before .before .before .before .before .before .before .before .before .before .before .before .before .before .before .before .before .before .before .before .pre .1),
     )
 
 returns : tie.Need-returns
-returns c = λ h. rw (decoded-nodes _ _ _ _ _ _ (c .before .before .before .before .before .before .before .before .before .before .before .before .before .before .before .decode .ensures)) at (c .before .beside .ensures h)
+returns c =
+    let s = c .before .before .before .before .before .before .before .before .before .before .before .before .before .before .before .before .before .before .before .before .before .before .before .before .before .before .pre .0 in
+    let u = nodes-good (c .before .before .before .before .before .before .before .before .before .before .before .before .before .before .before .before .before .before .before .before .before .before .before .before .before .before .args .b .now) (record { bytes = bytes-known (c .before .before .before .before .before .before .before .before .before .before .before .before .before .before .before .before .before .before .before .before .before .before .before .before .before .before .args .b .now) (c .before .before .before .before .before .before .before .before .before .before .before .before .before .before .before .before .before .before .before .before .before .before .before .before .shared-slice-known2 .given); size = s .size-b; faultless = s .fault-b }) .unique in
+    λ h. c .before .beside .ensures h ∙ loaded-a (c .before .before .before .before .before .before .before .before .before .before .before .before .before .before .before .load .ensures) (nodesIn (c .before .before .before .before .before .before .before .before .before .before .before .before .before .before .before .before .before .before .before .before .before .before .before .before .before .before .args .b .now)) u
 
 pub all-spec : {M : Type 1} → statement M
 all-spec =
     tie.close
     (tie.spec
-    slice-aggregate-decode
-    slice-aggregate-decode-2
-    slice-aggregate-decode-3
-    slice-aggregate-decode-4
-    decode-requires
+    slice-aggregate-load
+    slice-aggregate-load-2
+    slice-aggregate-load-3
+    slice-aggregate-load-4
+    load-requires
     array-share-prefix-ns
     slice-aggregate-locate
     slice-aggregate-locate-2

@@ -3,55 +3,56 @@ use mathlib.Core.Path.{sym}
 use native.Mathlib.Omega.{arith}
 use lib.Seq.{length-take-le}
 use Rattle.tables.specs.Laws.ListRead.{bytes-known}
-use Rattle.pairing.specs.Laws.Fit.{decoded-nodes, decoded-fit}
+use Rattle.tables.specs.Definitions.Tables.{nodesIn}
+use Rattle.tables.specs.Laws.Accepted.{nodes-good}
+use Rattle.pairing.specs.Laws.Fit.{joined-as, loaded-a}
 use borrow.Author.Needs.{needs}
 use Rattle.pairing.proofs.links.links.Statement.{statement}
 use Rattle.pairing.proofs.links.links.Tie as tie
 
-slice-aggregate-decode : tie.Need-slice-aggregate-decode
-slice-aggregate-decode c = search needs
+slice-aggregate-load : tie.Need-slice-aggregate-load
+slice-aggregate-load c = search needs
 
-slice-aggregate-decode-2 : tie.Need-slice-aggregate-decode-2
-slice-aggregate-decode-2 c = search needs
+slice-aggregate-load-2 : tie.Need-slice-aggregate-load-2
+slice-aggregate-load-2 c = search needs
 
-slice-aggregate-decode-3 : tie.Need-slice-aggregate-decode-3
-slice-aggregate-decode-3 c = search needs
+slice-aggregate-load-3 : tie.Need-slice-aggregate-load-3
+slice-aggregate-load-3 c = search needs
 
-slice-aggregate-decode-4 : tie.Need-slice-aggregate-decode-4
-slice-aggregate-decode-4 c = search needs
+slice-aggregate-load-4 : tie.Need-slice-aggregate-load-4
+slice-aggregate-load-4 c = search needs
 
-decode-requires : tie.Need-decode-requires
-decode-requires c κs = search needs
+load-requires : tie.Need-load-requires
+load-requires c κs = search needs
 
 array-share-prefix-ns : tie.Need-array-share-prefix-ns
 array-share-prefix-ns c = search needs
 
 slice-aggregate-beside : tie.Need-slice-aggregate-beside
-slice-aggregate-beside c = let d = c .before .before .before .before .before .decode .ensures in sym (length-take-le _ _ (omega (arith, d .within, d .rooms .0)))
+slice-aggregate-beside c = let d = c .before .before .before .before .before .load .ensures in sym (length-take-le _ _ (omega (arith, d .within, d .rooms .0)))
 
 array-share-prefix-xs : tie.Need-array-share-prefix-xs
 array-share-prefix-xs c = search needs
 
 slice-aggregate-beside-2 : tie.Need-slice-aggregate-beside-2
-slice-aggregate-beside-2 c = let d = c .before .before .before .before .before .before .decode .ensures in sym (length-take-le _ _ (omega (arith, d .within, d .rooms .1)))
+slice-aggregate-beside-2 c = let d = c .before .before .before .before .before .before .load .ensures in sym (length-take-le _ _ (omega (arith, d .within, d .rooms .1)))
 
 array-share-prefix-ys : tie.Need-array-share-prefix-ys
 array-share-prefix-ys c = search needs
 
 slice-aggregate-beside-3 : tie.Need-slice-aggregate-beside-3
-slice-aggregate-beside-3 c = let d = c .before .before .before .before .before .before .before .decode .ensures in sym (length-take-le _ _ (omega (arith, d .within, d .rooms .2)))
+slice-aggregate-beside-3 c = let d = c .before .before .before .before .before .before .before .load .ensures in sym (length-take-le _ _ (omega (arith, d .within, d .rooms .2)))
 
 array-share-prefix-ks : tie.Need-array-share-prefix-ks
 array-share-prefix-ks c = search needs
 
 slice-aggregate-beside-4 : tie.Need-slice-aggregate-beside-4
-slice-aggregate-beside-4 c = let d = c .before .before .before .before .before .before .before .before .decode .ensures in sym (length-take-le _ _ (omega (arith, d .within, d .rooms .3)))
+slice-aggregate-beside-4 c = let d = c .before .before .before .before .before .before .before .before .load .ensures in sym (length-take-le _ _ (omega (arith, d .within, d .rooms .3)))
 
 beside-requires : tie.Need-beside-requires
 beside-requires c κs =
     let s = c .before .before .before .before .before .before .before .before .before .before .before .before .before .before .before .before .before .before .before .before .before .before .before .pre .0 in
-    let a = c .before .before .before .before .before .before .before .before .before .before .before .before .before .before .before .before .before .before .before .before .before .before .before .args .a .now in
-    (decoded-fit _ _ _ _ _ _ (c .before .before .before .before .before .before .before .before .before .before .before .before .decode .ensures) (record { bytes = bytes-known a (c .before .before .before .before .before .before .before .before .before .before .before .before .before .before .before .before .before .before .before .before .before .before .shared-slice-known .given); size = s .size-a; faultless = s .fault-a }), ((s .size-b, s .fault-b), c .before .before .before .before .before .before .before .before .before .before .before .before .before .before .before .before .before .before .before .before .before .before .before .pre .1))
+    (c .before .before .before .before .before .before .before .before .before .before .before .before .load .ensures .fit, ((s .size-b, s .fault-b), c .before .before .before .before .before .before .before .before .before .before .before .before .before .before .before .before .before .before .before .before .before .before .before .pre .1))
 
 same-length : tie.Need-same-length
 same-length c = search needs
@@ -66,17 +67,20 @@ same-length-4 : tie.Need-same-length-4
 same-length-4 c = search needs
 
 returns : tie.Need-returns
-returns c = rw (decoded-nodes _ _ _ _ _ _ (c .before .before .before .before .before .before .before .before .before .before .before .before .before .before .before .before .before .before .before .before .before .decode .ensures)) at (c .before .before .before .before .before .before .before .before .beside .ensures)
+returns c =
+    let s = c .before .before .before .before .before .before .before .before .before .before .before .before .before .before .before .before .before .before .before .before .before .before .before .before .before .before .before .before .before .before .before .before .pre .0 in
+    let u = nodes-good (c .before .before .before .before .before .before .before .before .before .before .before .before .before .before .before .before .before .before .before .before .before .before .before .before .before .before .before .before .before .before .before .before .args .b .now) (record { bytes = bytes-known (c .before .before .before .before .before .before .before .before .before .before .before .before .before .before .before .before .before .before .before .before .before .before .before .before .before .before .before .before .before .before .before .before .args .b .now) (c .before .before .before .before .before .before .before .before .before .before .before .before .before .before .before .before .before .before .before .before .before .before .before .before .before .before .before .before .before .before .shared-slice-known2 .given); size = s .size-b; faultless = s .fault-b }) .unique in
+    joined-as (loaded-a (c .before .before .before .before .before .before .before .before .before .before .before .before .before .before .before .before .before .before .before .before .before .load .ensures) (nodesIn (c .before .before .before .before .before .before .before .before .before .before .before .before .before .before .before .before .before .before .before .before .before .before .before .before .before .before .before .before .before .before .before .before .args .b .now)) u) (c .before .before .before .before .before .before .before .before .beside .ensures)
 
 pub links-spec : {M : Type 1} → statement M
 links-spec =
     tie.close
     (tie.spec
-    slice-aggregate-decode
-    slice-aggregate-decode-2
-    slice-aggregate-decode-3
-    slice-aggregate-decode-4
-    decode-requires
+    slice-aggregate-load
+    slice-aggregate-load-2
+    slice-aggregate-load-3
+    slice-aggregate-load-4
+    load-requires
     array-share-prefix-ns
     slice-aggregate-beside
     array-share-prefix-xs
