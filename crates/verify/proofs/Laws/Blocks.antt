@@ -12,7 +12,6 @@ use lib.ListN.{length, getD}
 use Rattle.bounds.specs.Boxes.{Extreme}
 use Rattle.matching.specs.Definitions.Columns.{Inside}
 use Rattle.join.specs.Sizes.{numberRange}
-use Rattle.verify.specs.declared.blocks.Block.{Block}
 use Rattle.verify.specs.Open.{late, Ruled}
 use Rattle.verify.specs.Blocks.{Encloses}
 
