@@ -6,7 +6,7 @@ ghost use mathlib.Core.Option.{none};
 ghost use mathlib.Core.List.{[], _∷_};
 ghost use lib.ListN.{length};
 ghost use Rattle.matching.specs.Definitions.Nodes.{each};
-ghost use Rattle.tables.specs.Definitions.Sizes.{editSize, tableSize, listSize};
+ghost use Rattle.tables.specs.Definitions.Sizes.{editSize, tableSize, linkRows, listSize};
 ghost use Rattle.tables.specs.Definitions.Tables.{nodesIn};
 ghost use Rattle.tables.specs.Definitions.Edits.{kindOf, masterOf, editTable};
 ghost use Rattle.tables.specs.Laws.Changes.{changeOf, known};
@@ -17,7 +17,7 @@ ghost use Rattle.contract.specs.Definitions.Refusals.{refusal};
 ghost use Rattle.contract.specs.Definitions.Calls.{outcome, editCall};
 ghost use Rattle.pairing.specs.Verdicts.{Sound, Finished};
 ghost use Rattle.pairing.specs.Edit.{request, placeAnswer, nodeAnswer, editAnswer, Changed, Rewritten};
-use super::links::links;
+use super::revised::revised;
 use super::verdict;
 use contract::Answer;
 use tables::compare::common_rows;
@@ -116,7 +116,7 @@ fn change_tables(a: &mut [u8], b: &mut [u8], edit: &[u8])
     change_table(b, edit);
 }
 
-// The list of links is finished for two tables anew; gives how many rows are kept. The part from there on is written.
+// The list of links is finished for two tables after an edit; gives how many rows are kept. The part from there on is written.
 fn rewrite(
     a: &[u8],
     b: &[u8],
@@ -126,15 +126,29 @@ fn rewrite(
     ld: &[u32],
     lm: &[u32],
     n: usize,
+    edit: &[u8],
 ) -> usize
-    requires { ⌜ Sound (now a) (now b) × (length (now list) ≡ listSize) × Long (now la) (now lb) (now ld) (now lm) n ⌝ }
+    requires { ⌜ Sound (now a) (now b) × (length (now list) ≡ listSize) × Long (now la) (now lb) (now ld) (now lm) n × (n ≤ linkRows) × (length (now edit) ≡ editSize) ⌝ }
     ensures { λ r. ⌜ Rewritten (now (a .entry)) (now (b .entry)) (now (list .entry)) (now (la .entry)) (now (lb .entry)) (now (ld .entry)) (now (lm .entry)) n (now (list .exit)) r ⌝ }
 {
     let mut ka = [0u32; LINKS];
     let mut kb = [0u32; LINKS];
     let mut kd = [0u32; LINKS];
     let mut km = [0u32; LINKS];
-    let m = links(a, b, &mut ka, &mut kb, &mut kd, &mut km);
+    let m = revised(
+        a,
+        b,
+        la,
+        lb,
+        ld,
+        lm,
+        n,
+        &mut ka,
+        &mut kb,
+        &mut kd,
+        &mut km,
+        edit,
+    );
     let kept = common_rows(la, lb, ld, lm, n, &ka, &kb, &kd, &km, m);
     let at = LINK * kept;
     write_links(&mut list[at..], &ka, &kb, &kd, &km, kept, m);
@@ -158,7 +172,7 @@ fn perform(
     ensures { λ r. ⌜ outcome r (now (a .exit)) (now (b .exit)) (now (list .exit)) (now (edit .entry) ∷ []) ≡ editCall (now (a .entry)) (now (b .entry)) (now (list .entry)) (now (edit .entry)) ⌝ }
 {
     change_tables(a, b, edit);
-    let kept = rewrite(a, b, list, la, lb, ld, lm, n);
+    let kept = rewrite(a, b, list, la, lb, ld, lm, n, edit);
     Answer::Done(kept as u16)
 }
 

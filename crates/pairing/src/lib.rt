@@ -9,6 +9,7 @@ mod edit;
 mod links;
 mod load;
 mod pair;
+mod revised;
 mod spare;
 mod step;
 mod verdict;

@@ -20,7 +20,7 @@ rewrite-requires c κs =
     let ba = bytes-known (x .a .now) (c .before .before .before .before .before .before .before .before .before .before .before .before .before .before .before .before .before .slice-known .given) in
     let bb = bytes-known (x .b .now) (c .before .before .before .before .before .before .before .before .before .before .before .before .before .before .before .before .slice-known2 .given) in
     let g = edit-passes _ (x .edit .now) (x .a .now) (x .b .now) (x .list .now) (bytes-known (x .edit .now) (c .before .before .before .before .before .before .before .before .before .before .before .before .before .before .shared-slice-known .given)) (no-refusal _ _ (x .a .now) (x .b .now) (x .list .now) (p .1)) in
-    (changed-sound (x .edit .now) (x .a .now) (x .b .now) (x .list .now) (x .la .now) (x .lb .now) (x .ld .now) (x .lm .now) (x .n) (p .0) ba bb g _ _ (c .before .before .before .before .before .before .before .change-tables .ensures), p .0 .size, joined-long (x .a .now) (x .b .now) (p .0 .sound) ba bb (x .list .now) (x .la .now) (x .lb .now) (x .ld .now) (x .lm .now) (x .n) (p .0 .joined))
+    (changed-sound (x .edit .now) (x .a .now) (x .b .now) (x .list .now) (x .la .now) (x .lb .now) (x .ld .now) (x .lm .now) (x .n) (p .0) ba bb g _ _ (c .before .before .before .before .before .before .before .change-tables .ensures), p .0 .size, joined-long (x .a .now) (x .b .now) (p .0 .sound) ba bb (x .list .now) (x .la .now) (x .lb .now) (x .ld .now) (x .lm .now) (x .n) (p .0 .joined), p .0 .joined .most, g .size)
 
 cast-t22 : tie.Need-cast-t22
 cast-t22 c = search needs

@@ -10,20 +10,20 @@ use borrow.Author.Needs.{needs}
 use Rattle.pairing.proofs.edit.rewrite.Statement.{statement}
 use Rattle.pairing.proofs.edit.rewrite.Tie as tie
 
-slice-aggregate-links : tie.Need-slice-aggregate-links
-slice-aggregate-links c = search needs
+slice-aggregate-revised : tie.Need-slice-aggregate-revised
+slice-aggregate-revised c = search needs
 
-slice-aggregate-links-2 : tie.Need-slice-aggregate-links-2
-slice-aggregate-links-2 c = search needs
+slice-aggregate-revised-2 : tie.Need-slice-aggregate-revised-2
+slice-aggregate-revised-2 c = search needs
 
-slice-aggregate-links-3 : tie.Need-slice-aggregate-links-3
-slice-aggregate-links-3 c = search needs
+slice-aggregate-revised-3 : tie.Need-slice-aggregate-revised-3
+slice-aggregate-revised-3 c = search needs
 
-slice-aggregate-links-4 : tie.Need-slice-aggregate-links-4
-slice-aggregate-links-4 c = search needs
+slice-aggregate-revised-4 : tie.Need-slice-aggregate-revised-4
+slice-aggregate-revised-4 c = search needs
 
-links-requires : tie.Need-links-requires
-links-requires c κs = search needs
+revised-requires : tie.Need-revised-requires
+revised-requires c κs = let p = c .before .before .before .before .before .before .before .before .before .before .before .before .pre in ((p .0, p .4), (p .2, p .3, record { in-a = search needs; in-b = search needs; in-d = search needs; in-m = search needs }))
 
 slice-aggregate-common-rows : tie.Need-slice-aggregate-common-rows
 slice-aggregate-common-rows c = search needs
@@ -41,20 +41,20 @@ common-rows-requires : tie.Need-common-rows-requires
 common-rows-requires c κs = search needs
 
 -- No more rows are kept than there are links.
-kept : (c : tie.After-common-rows) → c .common-rows .result ≤ c .before .before .before .before .before .before .before .before .before .links .result
+kept : (c : tie.After-common-rows) → c .common-rows .result ≤ c .before .before .before .before .before .before .before .before .before .revised .result
 kept c =
-    let x = c .before .before .before .before .before .before .before .before .before .before .before .before .before .before .before .before .before .before .before .before .before .args in
-    let j = c .before .before .before .before .before .before .before .before .before .links .ensures in
-    kept-low (x .a .now) (x .b .now) (c .before .before .before .before .before .before .before .before .before .before .before .before .before .before .before .before .before .before .before .before .before .pre .0) (bytes-known (x .a .now) (c .before .before .before .before .before .before .before .before .before .before .before .before .before .before .before .before .before .before .before .before .shared-slice-known .given)) (bytes-known (x .b .now) (c .before .before .before .before .before .before .before .before .before .before .before .before .before .before .before .before .before .before .before .shared-slice-known2 .given)) (x .list .now) (x .la .now) (x .lb .now) (x .ld .now) (x .lm .now) (x .n) _ _ _ _ _ j _ (c .common-rows .ensures .0)
+    let x = c .before .before .before .before .before .before .before .before .before .before .before .before .before .before .before .before .before .before .before .before .before .before .args in
+    let j = c .before .before .before .before .before .before .before .before .before .revised .ensures in
+    kept-low (x .a .now) (x .b .now) (c .before .before .before .before .before .before .before .before .before .before .before .before .before .before .before .before .before .before .before .before .before .before .pre .0) (bytes-known (x .a .now) (c .before .before .before .before .before .before .before .before .before .before .before .before .before .before .before .before .before .before .before .before .before .shared-slice-known .given)) (bytes-known (x .b .now) (c .before .before .before .before .before .before .before .before .before .before .before .before .before .before .before .before .before .before .before .before .shared-slice-known2 .given)) (x .list .now) (x .la .now) (x .lb .now) (x .ld .now) (x .lm .now) (x .n) _ _ _ _ _ j _ (c .common-rows .ensures .0)
 
 mul-at : tie.Need-mul-at
-mul-at c = record { fits = omega (arith, kept c, c .before .before .before .before .before .before .before .before .before .links .ensures .most) }
+mul-at c = record { fits = omega (arith, kept c, c .before .before .before .before .before .before .before .before .before .revised .ensures .most) }
 
 sub-write-links : tie.Need-sub-write-links
-sub-write-links c = omega (arith, kept c, c .before .before .before .before .before .before .before .before .before .links .ensures .most, c .before .before .before .before .before .before .before .before .before .before .before .before .before .before .before .before .before .before .before .before .before .pre .1)
+sub-write-links c = omega (arith, kept c, c .before .before .before .before .before .before .before .before .before .revised .ensures .most, c .before .before .before .before .before .before .before .before .before .before .before .before .before .before .before .before .before .before .before .before .before .before .pre .1)
 
 part-write-links-start : tie.Need-part-write-links-start
-part-write-links-start c = omega (arith, kept c, c .before .before .before .before .before .before .before .before .before .links .ensures .most, c .before .before .before .before .before .before .before .before .before .before .before .before .before .before .before .before .before .before .before .before .before .pre .1)
+part-write-links-start c = omega (arith, kept c, c .before .before .before .before .before .before .before .before .before .revised .ensures .most, c .before .before .before .before .before .before .before .before .before .before .before .before .before .before .before .before .before .before .before .before .before .before .pre .1)
 
 part-write-links-end : tie.Need-part-write-links-end
 part-write-links-end c = search needs
@@ -73,30 +73,30 @@ slice-aggregate-write-links-4 c = search needs
 
 write-links-requires : tie.Need-write-links-requires
 write-links-requires c κs =
-    let x = c .before .before .before .before .before .before .before .before .before .before .before .before .before .before .before .before .before .before .before .before .before .before .before .before .before .before .args in
-    let j = c .before .before .before .before .before .before .before .before .before .before .before .before .before .before .links .ensures in
+    let x = c .before .before .before .before .before .before .before .before .before .before .before .before .before .before .before .before .before .before .before .before .before .before .before .before .before .before .before .args in
+    let j = c .before .before .before .before .before .before .before .before .before .before .before .before .before .before .revised .ensures in
     let k = kept (c .before .before .before .before .before) in
-    ((omega (arith, k, j .most, c .before .before .before .before .before .before .before .before .before .before .before .before .before .before .before .before .before .before .before .before .before .before .before .before .before .before .pre .1), k, j .most), joined-long (x .a .now) (x .b .now) (c .before .before .before .before .before .before .before .before .before .before .before .before .before .before .before .before .before .before .before .before .before .before .before .before .before .before .pre .0) (bytes-known (x .a .now) (c .before .before .before .before .before .before .before .before .before .before .before .before .before .before .before .before .before .before .before .before .before .before .before .before .before .shared-slice-known .given)) (bytes-known (x .b .now) (c .before .before .before .before .before .before .before .before .before .before .before .before .before .before .before .before .before .before .before .before .before .before .before .before .shared-slice-known2 .given)) (x .list .now) _ _ _ _ _ j)
+    ((omega (arith, k, j .most, c .before .before .before .before .before .before .before .before .before .before .before .before .before .before .before .before .before .before .before .before .before .before .before .before .before .before .before .pre .1), k, j .most), joined-long (x .a .now) (x .b .now) (c .before .before .before .before .before .before .before .before .before .before .before .before .before .before .before .before .before .before .before .before .before .before .before .before .before .before .before .pre .0) (bytes-known (x .a .now) (c .before .before .before .before .before .before .before .before .before .before .before .before .before .before .before .before .before .before .before .before .before .before .before .before .before .before .shared-slice-known .given)) (bytes-known (x .b .now) (c .before .before .before .before .before .before .before .before .before .before .before .before .before .before .before .before .before .before .before .before .before .before .before .before .before .shared-slice-known2 .given)) (x .list .now) _ _ _ _ _ j)
 
 same-length : tie.Need-same-length
 same-length c = search needs
 
 returns : tie.Need-returns
 returns c =
-    let x = c .before .before .before .before .before .before .before .before .before .before .before .before .before .before .before .before .before .before .before .before .before .before .before .before .before .before .before .before .before .args in
-    let j = c .before .before .before .before .before .before .before .before .before .before .before .before .before .before .before .before .before .links .ensures in
+    let x = c .before .before .before .before .before .before .before .before .before .before .before .before .before .before .before .before .before .before .before .before .before .before .before .before .before .before .before .before .before .before .args in
+    let j = c .before .before .before .before .before .before .before .before .before .before .before .before .before .before .before .before .before .revised .ensures in
     let k = kept (c .before .before .before .before .before .before .before .before) in
-    rewritten (x .a .now) (x .b .now) (c .before .before .before .before .before .before .before .before .before .before .before .before .before .before .before .before .before .before .before .before .before .before .before .before .before .before .before .before .before .pre .0) (bytes-known (x .a .now) (c .before .before .before .before .before .before .before .before .before .before .before .before .before .before .before .before .before .before .before .before .before .before .before .before .before .before .before .before .shared-slice-known .given)) (bytes-known (x .b .now) (c .before .before .before .before .before .before .before .before .before .before .before .before .before .before .before .before .before .before .before .before .before .before .before .before .before .before .before .shared-slice-known2 .given)) (x .list .now) (x .la .now) (x .lb .now) (x .ld .now) (x .lm .now) (x .n) _ _ _ _ _ j _ (c .before .before .before .before .before .before .before .before .common-rows .ensures .0) _ _ (c .before .before .write-links .ensures) (tail-back (linkSize * (c .before .before .before .before .before .before .before .before .common-rows .result)) (x .list .now) _ (omega (arith, k, j .most, c .before .before .before .before .before .before .before .before .before .before .before .before .before .before .before .before .before .before .before .before .before .before .before .before .before .before .before .before .before .pre .1)))
+    rewritten (x .a .now) (x .b .now) (c .before .before .before .before .before .before .before .before .before .before .before .before .before .before .before .before .before .before .before .before .before .before .before .before .before .before .before .before .before .before .pre .0) (bytes-known (x .a .now) (c .before .before .before .before .before .before .before .before .before .before .before .before .before .before .before .before .before .before .before .before .before .before .before .before .before .before .before .before .before .shared-slice-known .given)) (bytes-known (x .b .now) (c .before .before .before .before .before .before .before .before .before .before .before .before .before .before .before .before .before .before .before .before .before .before .before .before .before .before .before .before .shared-slice-known2 .given)) (x .list .now) (x .la .now) (x .lb .now) (x .ld .now) (x .lm .now) (x .n) _ _ _ _ _ j _ (c .before .before .before .before .before .before .before .before .common-rows .ensures .0) _ _ (c .before .before .write-links .ensures) (tail-back (linkSize * (c .before .before .before .before .before .before .before .before .common-rows .result)) (x .list .now) _ (omega (arith, k, j .most, c .before .before .before .before .before .before .before .before .before .before .before .before .before .before .before .before .before .before .before .before .before .before .before .before .before .before .before .before .before .before .pre .1)))
 
 pub rewrite-spec : {M : Type 1} → statement M
 rewrite-spec =
     tie.close
     (tie.spec
-    slice-aggregate-links
-    slice-aggregate-links-2
-    slice-aggregate-links-3
-    slice-aggregate-links-4
-    links-requires
+    slice-aggregate-revised
+    slice-aggregate-revised-2
+    slice-aggregate-revised-3
+    slice-aggregate-revised-4
+    revised-requires
     slice-aggregate-common-rows
     slice-aggregate-common-rows-2
     slice-aggregate-common-rows-3
