@@ -1,102 +1,179 @@
--- `chain::pick` meets its contract. The loop's invariant: the links taken, put into those still to be taken, are the join of what was left at first.
--- The toGo is the step's. Assumes nothing.
-use Prim.Native.Nat.{ℕ}
-use mathlib.Core.Path.{_≡_, refl, sym, _∙_}
-use mathlib.Core.Bool.{false}
-use mathlib.Core.List.{[]}
-use native.Mathlib.Omega.{arith}
-use Rattle.matching.specs.Definitions.Columns.{tabulate, linksOf}
-use Rattle.matching.specs.Theorems.Mutual.{puts}
-use Rattle.join.specs.Rows.{rows, rest}
-use Rattle.join.specs.Live.{lists}
-use Rattle.join.specs.Order.{table}
-use Rattle.join.specs.Chain.{Good, whole, toGo}
-use Rattle.join.proofs.Laws.Step.{good-start}
+use borrow.Author.Needs.{needs}
 use Rattle.join.proofs.chain.pick.Statement.{statement}
 use Rattle.join.proofs.chain.pick.Tie as tie
+use Rattle.join.proofs.chain.pick.Reads as reads
+use Rattle.join.proofs.chain.pick.Lts as lts
+use Rattle.join.proofs.blocks.enlist.Reads as enlist-reads
+use Rattle.join.proofs.blocks.survey.Reads as survey-reads
+use Rattle.join.proofs.chain.run.Reads as run-reads
 
-abbrev Inv-loop : tie.InvT-loop
-Inv-loop split ns xs ys left₀ live₀ spot₀ kn₀ kx₀ ky₀ chain₀ la₀ lb₀ ld₀ lm₀ a b s₀ left live spot kn kx ky chain la lb ld lm s =
-    Good (rows ns xs ys split) left (lists live spot kn kx ky) chain (table la lb ld lm) s
-    × (whole (rows ns xs ys split) left (table la lb ld lm) (s .links) ≡ rest (rows ns xs ys split) left₀)
-    × (s .more ≡ false → rest (rows ns xs ys split) left ≡ [])
+-- src/chain.rt:381:9
+slice-aggregate-enlist : tie.Need-slice-aggregate-enlist
+slice-aggregate-enlist c = search needs
 
-abbrev μ-loop : tie.MeasureT-loop
-μ-loop split ns xs ys left₀ live₀ spot₀ kn₀ kx₀ ky₀ chain₀ la₀ lb₀ ld₀ lm₀ a b s₀ left live spot kn kx ky chain la lb ld lm s = toGo (rows ns xs ys split) left s
+-- src/chain.rt:368:5
+enlist-requires : tie.Need-enlist-requires
+enlist-requires c κs = ?
 
-gather-requires : tie.Need-gather-requires Inv-loop μ-loop
-gather-requires c κs = let p = c .before .before .before .before .before .before .before .before .before .before .before .before .before .before .before .before .pre in (p .0 .0 .columns, p .1, p .0 .0 .len-c, omega arith, p .0 .0 .parts)
+-- src/chain.rt:396:9
+slice-aggregate-enlist-2 : tie.Need-slice-aggregate-enlist-2
+slice-aggregate-enlist-2 c = search needs
 
-gather-requires-2 : tie.Need-gather-requires-2 Inv-loop μ-loop
-gather-requires-2 c κs = let p = c .before .before .before .before .before .before .before .before .before .before .before .before .before .before .before .before .before .before .before .before .before .before .before .before .before .before .before .before .before .before .before .pre in (p .0 .0 .columns, record { in-live = c .before .before .before .before .before .before .before .before .before .before .before .before .before .live .given ∙ p .1 .in-live; in-spot = c .before .before .before .before .before .before .before .before .before .before .before .spot .given ∙ p .1 .in-spot; in-n = c .before .before .before .before .before .before .before .before .before .kn .given ∙ p .1 .in-n; in-x = c .before .before .before .before .before .before .before .kx .given ∙ p .1 .in-x; in-y = c .before .before .before .before .before .before .ky .given ∙ p .1 .in-y }, p .0 .0 .len-c, p .0 .0 .parts, omega arith)
+-- src/chain.rt:383:5
+enlist-requires-2 : tie.Need-enlist-requires-2
+enlist-requires-2 c κs = ?
 
-loop-holds : tie.Need-loop-holds Inv-loop μ-loop
-unfolding whole linksOf tabulate puts
-loop-holds c =
-    let p = c .before .before .before .before .before .before .before .before .before .before .before .before .before .before .before .before .before .before .before .before .before .before .before .before .before .before .before .before .before .before .before .before .before .before .before .before .before .before .before .before .pre in (
-      good-start _ _ _ _ _ _ _ _ _ (p .0 .0) (record { in-live = c .before .before .before .before .before .before .before .live2 .given ∙ c .before .before .before .before .before .before .before .before .before .before .before .before .before .before .before .before .before .before .before .before .before .before .live .given ∙ p .1 .in-live; in-spot = c .before .before .before .before .before .spot2 .given ∙ c .before .before .before .before .before .before .before .before .before .before .before .before .before .before .before .before .before .before .before .before .spot .given ∙ p .1 .in-spot; in-n = c .before .before .before .kn2 .given ∙ c .before .before .before .before .before .before .before .before .before .before .before .before .before .before .before .before .before .before .kn .given ∙ p .1 .in-n; in-x = c .before .kx2 .given ∙ c .before .before .before .before .before .before .before .before .before .before .before .before .before .before .before .before .kx .given ∙ p .1 .in-x; in-y = c .ky2 .given ∙ c .before .before .before .before .before .before .before .before .before .before .before .before .before .before .before .ky .given ∙ p .1 .in-y }) (c .before .before .before .before .before .before .before .before .before .before .before .before .before .before .before .before .before .before .before .before .before .before .before .gather .ensures) (c .before .before .before .before .before .before .before .before .gather2 .ensures) (p .0 .1) (p .0 .2),
-      refl,
-      λ e. let z : _≡_ {A = ℕ} 0 1 = cc in absurd (omega arith),
-    )
+-- src/chain.rt:405:9
+slice-aggregate-survey : tie.Need-slice-aggregate-survey
+slice-aggregate-survey c = search needs
 
-step-requires : tie.Need-step-requires Inv-loop μ-loop
-step-requires c κs = (c .before .before .before .before .before .before .before .before .before .before .before .before .loop .inv .0, c .before .before .before .before .before .before .before .before .before .before .before .loop-test .taken)
+-- src/chain.rt:406:9
+slice-aggregate-survey-2 : tie.Need-slice-aggregate-survey-2
+slice-aggregate-survey-2 c = search needs
 
-loop-less : tie.Need-loop-less Inv-loop μ-loop
-loop-less c = c .before .before .before .before .before .before .before .before .before .before .before .before .before .before .before .before .before .before .before .before .step .ensures .falls
+-- src/chain.rt:407:9
+slice-aggregate-survey-3 : tie.Need-slice-aggregate-survey-3
+slice-aggregate-survey-3 c = search needs
 
-loop-again : tie.Need-loop-again Inv-loop μ-loop
-loop-again c = let r = c .before .before .before .before .before .before .before .before .before .before .before .before .before .before .before .before .before .before .before .before .step .ensures in (r .good, r .same ∙ c .before .before .before .before .before .before .before .before .before .before .before .before .before .before .before .before .before .before .before .before .before .before .before .before .before .before .before .before .before .before .before .before .before .loop .inv .1, r .ends)
+-- src/chain.rt:408:9
+slice-aggregate-survey-4 : tie.Need-slice-aggregate-survey-4
+slice-aggregate-survey-4 c = search needs
 
-same-length : tie.Need-same-length Inv-loop μ-loop
-same-length c = c .before .loop .inv .0 .ready .sound .len-c ∙ sym (c .before .before .before .before .before .before .before .before .before .before .before .before .before .before .before .before .before .before .before .before .before .before .before .before .before .before .before .before .before .before .before .before .before .before .before .before .before .before .before .before .before .before .pre .0 .0 .len-c)
+-- src/chain.rt:409:9
+slice-aggregate-survey-5 : tie.Need-slice-aggregate-survey-5
+slice-aggregate-survey-5 c = search needs
 
-same-length-2 : tie.Need-same-length-2 Inv-loop μ-loop
-same-length-2 c = c .before .loop .inv .0 .ready .sized .in-live ∙ sym (c .before .before .before .before .before .before .before .before .before .before .before .before .before .before .before .before .before .before .before .before .before .before .before .before .before .before .before .before .before .before .before .before .before .before .before .before .before .before .before .before .before .before .pre .1 .in-live)
+-- src/chain.rt:398:5
+survey-requires : tie.Need-survey-requires
+survey-requires c κs = ?
 
-same-length-3 : tie.Need-same-length-3 Inv-loop μ-loop
-same-length-3 c = c .before .loop .inv .0 .ready .sized .in-spot ∙ sym (c .before .before .before .before .before .before .before .before .before .before .before .before .before .before .before .before .before .before .before .before .before .before .before .before .before .before .before .before .before .before .before .before .before .before .before .before .before .before .before .before .before .before .pre .1 .in-spot)
+-- src/chain.rt:418:9
+slice-aggregate-survey-6 : tie.Need-slice-aggregate-survey-6
+slice-aggregate-survey-6 c = search needs
 
-same-length-4 : tie.Need-same-length-4 Inv-loop μ-loop
-same-length-4 c = c .before .loop .inv .0 .ready .sized .in-n ∙ sym (c .before .before .before .before .before .before .before .before .before .before .before .before .before .before .before .before .before .before .before .before .before .before .before .before .before .before .before .before .before .before .before .before .before .before .before .before .before .before .before .before .before .before .pre .1 .in-n)
+-- src/chain.rt:419:9
+slice-aggregate-survey-7 : tie.Need-slice-aggregate-survey-7
+slice-aggregate-survey-7 c = search needs
 
-same-length-5 : tie.Need-same-length-5 Inv-loop μ-loop
-same-length-5 c = c .before .loop .inv .0 .ready .sized .in-x ∙ sym (c .before .before .before .before .before .before .before .before .before .before .before .before .before .before .before .before .before .before .before .before .before .before .before .before .before .before .before .before .before .before .before .before .before .before .before .before .before .before .before .before .before .before .pre .1 .in-x)
+-- src/chain.rt:420:9
+slice-aggregate-survey-8 : tie.Need-slice-aggregate-survey-8
+slice-aggregate-survey-8 c = search needs
 
-same-length-6 : tie.Need-same-length-6 Inv-loop μ-loop
-same-length-6 c = c .before .loop .inv .0 .ready .sized .in-y ∙ sym (c .before .before .before .before .before .before .before .before .before .before .before .before .before .before .before .before .before .before .before .before .before .before .before .before .before .before .before .before .before .before .before .before .before .before .before .before .before .before .before .before .before .before .pre .1 .in-y)
+-- src/chain.rt:421:9
+slice-aggregate-survey-9 : tie.Need-slice-aggregate-survey-9
+slice-aggregate-survey-9 c = search needs
 
-same-length-7 : tie.Need-same-length-7 Inv-loop μ-loop
-same-length-7 c = c .before .loop .inv .0 .ready .path .room ∙ sym (c .before .before .before .before .before .before .before .before .before .before .before .before .before .before .before .before .before .before .before .before .before .before .before .before .before .before .before .before .before .before .before .before .before .before .before .before .before .before .before .before .before .before .pre .0 .1)
+-- src/chain.rt:422:9
+slice-aggregate-survey-10 : tie.Need-slice-aggregate-survey-10
+slice-aggregate-survey-10 c = search needs
 
-same-length-8 : tie.Need-same-length-8 Inv-loop μ-loop
-same-length-8 c = c .before .loop .inv .0 .room .in-a ∙ sym (c .before .before .before .before .before .before .before .before .before .before .before .before .before .before .before .before .before .before .before .before .before .before .before .before .before .before .before .before .before .before .before .before .before .before .before .before .before .before .before .before .before .before .pre .0 .2 .in-a)
+-- src/chain.rt:411:5
+survey-requires-2 : tie.Need-survey-requires-2
+survey-requires-2 c κs = ?
 
-same-length-9 : tie.Need-same-length-9 Inv-loop μ-loop
-same-length-9 c = c .before .loop .inv .0 .room .in-b ∙ sym (c .before .before .before .before .before .before .before .before .before .before .before .before .before .before .before .before .before .before .before .before .before .before .before .before .before .before .before .before .before .before .before .before .before .before .before .before .before .before .before .before .before .before .pre .0 .2 .in-b)
+-- src/chain.rt:435:9
+slice-aggregate-run : tie.Need-slice-aggregate-run
+slice-aggregate-run c = search needs
 
-same-length-10 : tie.Need-same-length-10 Inv-loop μ-loop
-same-length-10 c = c .before .loop .inv .0 .room .in-d ∙ sym (c .before .before .before .before .before .before .before .before .before .before .before .before .before .before .before .before .before .before .before .before .before .before .before .before .before .before .before .before .before .before .before .before .before .before .before .before .before .before .before .before .before .before .pre .0 .2 .in-d)
+-- src/chain.rt:436:9
+slice-aggregate-run-2 : tie.Need-slice-aggregate-run-2
+slice-aggregate-run-2 c = search needs
 
-same-length-11 : tie.Need-same-length-11 Inv-loop μ-loop
-same-length-11 c = c .before .loop .inv .0 .room .in-m ∙ sym (c .before .before .before .before .before .before .before .before .before .before .before .before .before .before .before .before .before .before .before .before .before .before .before .before .before .before .before .before .before .before .before .before .before .before .before .before .before .before .before .before .before .before .pre .0 .2 .in-m)
+-- src/chain.rt:437:9
+slice-aggregate-run-3 : tie.Need-slice-aggregate-run-3
+slice-aggregate-run-3 c = search needs
 
-returns : tie.Need-returns Inv-loop μ-loop
-unfolding whole
-returns c = let i = c .before .loop .inv in record { most = omega (arith, i .0 .count); room = i .0 .room; all = rw (i .2 (c .loop-test .left)) at (i .1) }
+-- src/chain.rt:438:9
+slice-aggregate-run-4 : tie.Need-slice-aggregate-run-4
+slice-aggregate-run-4 c = search needs
+
+-- src/chain.rt:439:9
+slice-aggregate-run-5 : tie.Need-slice-aggregate-run-5
+slice-aggregate-run-5 c = search needs
+
+-- src/chain.rt:440:9
+slice-aggregate-run-6 : tie.Need-slice-aggregate-run-6
+slice-aggregate-run-6 c = search needs
+
+-- src/chain.rt:424:5
+run-requires : tie.Need-run-requires
+run-requires c κs = ?
+
+-- src/chain.rt:340:1
+same-length : tie.Need-same-length
+same-length c = ?
+
+-- src/chain.rt:340:1
+same-length-2 : tie.Need-same-length-2
+same-length-2 c = ?
+
+-- src/chain.rt:340:1
+same-length-3 : tie.Need-same-length-3
+same-length-3 c = ?
+
+-- src/chain.rt:340:1
+same-length-4 : tie.Need-same-length-4
+same-length-4 c = ?
+
+-- src/chain.rt:340:1
+same-length-5 : tie.Need-same-length-5
+same-length-5 c = ?
+
+-- src/chain.rt:340:1
+same-length-6 : tie.Need-same-length-6
+same-length-6 c = ?
+
+-- src/chain.rt:340:1
+same-length-7 : tie.Need-same-length-7
+same-length-7 c = ?
+
+-- src/chain.rt:340:1
+same-length-8 : tie.Need-same-length-8
+same-length-8 c = ?
+
+-- src/chain.rt:340:1
+same-length-9 : tie.Need-same-length-9
+same-length-9 c = search needs
+
+-- src/chain.rt:340:1
+same-length-10 : tie.Need-same-length-10
+same-length-10 c = search needs
+
+-- src/chain.rt:340:1
+same-length-11 : tie.Need-same-length-11
+same-length-11 c = search needs
+
+-- src/chain.rt:340:1
+returns : tie.Need-returns
+returns c = search needs
 
 pub pick-spec : {M : Type 1} → statement M
 pick-spec =
     tie.close
     (tie.spec
-    Inv-loop
-    μ-loop
-    gather-requires
-    gather-requires-2
-    loop-holds
-    step-requires
-    loop-less
-    loop-again
+    slice-aggregate-enlist
+    enlist-requires
+    slice-aggregate-enlist-2
+    enlist-requires-2
+    slice-aggregate-survey
+    slice-aggregate-survey-2
+    slice-aggregate-survey-3
+    slice-aggregate-survey-4
+    slice-aggregate-survey-5
+    survey-requires
+    slice-aggregate-survey-6
+    slice-aggregate-survey-7
+    slice-aggregate-survey-8
+    slice-aggregate-survey-9
+    slice-aggregate-survey-10
+    survey-requires-2
+    slice-aggregate-run
+    slice-aggregate-run-2
+    slice-aggregate-run-3
+    slice-aggregate-run-4
+    slice-aggregate-run-5
+    slice-aggregate-run-6
+    run-requires
     same-length
     same-length-2
     same-length-3
