@@ -13,7 +13,7 @@ use Rattle.bounds.specs.Boxes.{Extreme}
 use Rattle.join.specs.Sizes.{masterRows, blockRows, masterBlocks, tableBlocks}
 use Rattle.join.specs.Rows.{Columns, Rows, size, from, to, On, Sound}
 use Rattle.join.specs.Live.{Lists, Sized, rowAt, spotOf, Same, Live, Gathered, Refreshed}
-use Rattle.join.specs.Blocks.{start, stop, half, Block, Spans, Enlisted, Boxes, boxes, Wide, Within, Boxed, Least, SameBox, Framed, Surveyed, Kept}
+use Rattle.join.specs.Blocks.{start, stop, half, Block, Spans, Enlisted, Boxes, boxes, Wide, Within, Boxed, Least, SameBox, Framed, Surveyed, Kept, Fenced}
 use Rattle.join.proofs.Laws.Live.{same-refl, same-trans, live-same, live-left}
 use Rattle.join.proofs.Laws.Refresh.{may-refresh, refreshed}
 
@@ -215,3 +215,29 @@ module _ (R : Rows) where
 
     pub spend-kept : (O : Lists) (e : ℕ) → Refreshed (R .ns) (R .xs) (R .ys) (set left row x) row (getD E b 0) Q O e → Kept R (set left row x) O (set E b e)
     spend-kept O e = by-master row b low at (λ m on d. rw d (spent left v Q E k m row on was x fewer O e))
+
+  -- A master's rows have place in the columns.
+  pub spans : (left : List ℕ) → Sound R left → (m : Master) → Spans (size R) (half m) (from R m) (to R m)
+  spans left v masterA = record { most = v .most; low = omega arith; room = v .parts; blocks = omega arith; short = v .masters masterA }
+  spans left v masterB = record { most = v .most; low = v .parts; room = omega arith; blocks = omega arith; short = v .masters masterB }
+
+  -- A's rows are listed, then B's,
+  pub kept-start : (left : List ℕ) (Q P O : Lists) (E F G : List ℕ) → Sound R left → Enlisted (R .ns) (R .xs) (R .ys) left 0 0 (R .split) masterBlocks Q E P F
+      → Enlisted (R .ns) (R .xs) (R .ys) left masterBlocks (R .split) (size R) masterBlocks P F O G → Sized O (size R) → length G ≡ tableBlocks → Kept R left O G
+  kept-start left Q P O E F G v a b z e = record { sized = z; ends = e; lists = lists }
+    where
+      lists : (m : Master) (i : ℕ) → start (from R m) i < to R m → Live (R .ns) (R .xs) (R .ys) left O (start (from R m) i) (stop (from R m) (to R m) i) (getD G (half m + i) 0)
+      lists masterA i h =
+          rw (b .aside (0 + i) (λ p q. omega (arith, v .masters masterA)))
+          (live-same (R .ns) (R .xs) (R .ys) left P O (start 0 i) (stop 0 (R .split) i) (getD F (0 + i) 0) (λ k p q. b .apart k (λ f g. omega arith)) (a .lists i (omega (arith, v .masters masterA)) h))
+      lists masterB i h = b .lists i (omega (arith, v .masters masterB)) h
+
+  -- and get their boxes in the same way.
+  pub fenced-start : (left : List ℕ) (B D F : Boxes) → Sound R left → Surveyed (R .ns) (R .xs) (R .ys) 0 0 (R .split) masterBlocks B D
+      → Surveyed (R .ns) (R .xs) (R .ys) masterBlocks (R .split) (size R) masterBlocks D F → Wide F → Fenced R F
+  fenced-start left B D F v a b w = record { wide = w; boxed = boxed }
+    where
+      boxed : (m : Master) (i : ℕ) → start (from R m) i < to R m → Boxed (R .ns) (R .xs) (R .ys) F (half m + i) (start (from R m) i) (stop (from R m) (to R m) i)
+      boxed masterA i h =
+          boxed-same (R .ns) (R .xs) (R .ys) D F (0 + i) (start 0 i) (stop 0 (R .split) i) (b .aside (0 + i) (λ p q. omega (arith, v .masters masterA))) (a .boxed i (omega (arith, v .masters masterA)) h)
+      boxed masterB i h = b .boxed i (omega (arith, v .masters masterB)) h

@@ -23,7 +23,7 @@ use Rattle.join.specs.Nearest.{key, across, Keyed, AtMost, Guards, From,
 use Rattle.join.specs.Chain.{Pushed, Begun, Decided, Seeding, Seeded, none, under, Ready}
 use Rattle.join.proofs.Laws.Pairs.{closer, leq-packed, placed, faces-swap}
 use Rattle.join.proofs.Laws.Rest.{rest-none}
-use Rattle.join.proofs.Laws.Blocks.{within, in-block}
+use Rattle.join.proofs.Laws.Blocks.{spans, within, in-block}
 use Rattle.join.proofs.Laws.Chain.{room}
 
 -- A place is as far as its row.
@@ -34,7 +34,12 @@ across-gap R Q t k h = ap₂ (squaredDistance (getD (R .xs) t (pos 0)) (getD (R 
 -- No distance is as far as the farthest key says.
 across-fits : (R : Rows) (Q : Lists) (t k : ℕ) → Placed (R .xs) (R .ys) t → Placed (Q .kx) (Q .ky) k → across (R .xs) (R .ys) (Q .kx) (Q .ky) t k < 4294967295
 unfolding across
-across-fits R Q t k p q = distance-fits _ _ _ _ (inside-reach _ _ _ _ (p .inside) (q .inside))
+across-fits R Q t k p q =
+    let x = getD (R .xs) t (pos 0) in
+    let y = getD (R .ys) t (pos 0) in
+    let u = getD (Q .kx) k (pos 0) in
+    let v = getD (Q .ky) k (pos 0) in
+    distance-fits x y u v (inside-reach x y u v (p .inside) (q .inside))
 
 -- The row that faces one of a master's is the other master's.
 facing : (R : Rows) {t k : ℕ} (o : Master) → Faces R t k → On R o t → On R (other o) k
@@ -91,19 +96,8 @@ module _ (R : Rows) (left : List ℕ) (Q : Lists) (E : List ℕ) (B : Boxes) (ch
       x : Boxed (R .ns) (R .xs) (R .ys) B (half m + i) (start (from R m) i) (stop (from R m) (to R m) i)
       x = r .fenced .boxed m i h
 
-  spans : (m : Master) → Spans (size R) (half m) (from R m) (to R m)
-  spans m = record { most = r .sound .most; low = low m; room = ends m; blocks = blocks m; short = r .sound .masters m }
-    where
-      low : (m : Master) → from R m ≤ to R m
-      low masterA = omega arith
-      low masterB = r .sound .parts
-
-      blocks : (m : Master) → half m + masterBlocks ≤ tableBlocks
-      blocks masterA = omega arith
-      blocks masterB = omega arith
-
   pub may-look : (m : Master) → Spans (length (Q .kn)) (half m) (each 0 (R .split) m) (each (R .split) (length (Q .kn)) m) × Guards (Q .kn) (Q .kx) (Q .ky) E B (half m) (each 0 (R .split) m) (each (R .split) (length (Q .kn)) m)
-  may-look m = rw (r .kept .sized .in-n) (spans m, guards m)
+  may-look m = rw (r .kept .sized .in-n) (spans R left (r .sound) m, guards m)
 
   -- A master with nothing left: no pair can be taken.
   none-left : (m : Master) → ((q : ℕ) → On R m q → 1 ≤ getD left q 0 → ⊥) → rest R left ≡ []
