@@ -8,7 +8,7 @@ use lib.Signed.{_≤ℤ_}
 use Rattle.matching.specs.Definitions.Nodes.{Master, each}
 use Rattle.matching.specs.Definitions.Columns.{Inside}
 use Rattle.join.specs.Sizes.{tableRows, masterRows, blockRows, masterBlocks, tableBlocks, numberRange}
-use Rattle.join.specs.Rows.{Rows, size, from, to, Columns}
+use Rattle.join.specs.Rows.{Rows, size, from, to}
 use Rattle.join.specs.Live.{Lists, Sized, Elsewhere, Live}
 
 -- Where block i of the rows from a first row on starts,

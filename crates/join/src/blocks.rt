@@ -5,7 +5,7 @@ ghost use mathlib.Core.Path.{_≡_};
 ghost use Prim.Native.Nat.{_+_, _<_, _≤_, min};
 ghost use lib.ListN.{length, getD};
 ghost use Rattle.join.specs.Sizes.{tableRows, masterBlocks, tableBlocks};
-ghost use Rattle.join.specs.Rows.{rows, size, Columns, Sound};
+ghost use Rattle.join.specs.Rows.{rows, Columns, Sound};
 ghost use Rattle.join.specs.Live.{lists, Sized};
 ghost use Rattle.join.specs.Blocks.{Block, Spans, Enlisted, boxes, Wide, Least, Framed, Surveyed, Kept, Spent};
 

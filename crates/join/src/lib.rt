@@ -3,6 +3,7 @@ mod blocks;
 mod chain;
 pub mod nearest;
 mod order;
+mod picks;
 mod rows;
 pub mod sizes;
 
@@ -54,7 +55,7 @@ pub fn join(
         &mut left,
     );
     let size = an.len() + bn.len();
-    let n = chain::pick(
+    let n = picks::pick(
         an.len(),
         &ns[..size],
         &xs[..size],

@@ -1,6 +1,6 @@
 -- Blocks: lists made and boxes put up block by block; a row that loses something. Assumes nothing.
-use Prim.Native.Nat.{ℕ, _+_, _-_, _*_, _/_, _<_, _≤_}
-use mathlib.Core.Path.{_≡_, refl, sym, _∙_, ap}
+use Prim.Native.Nat.{ℕ, _+_, _-_, _/_, _<_, _≤_}
+use mathlib.Core.Path.{_≡_, refl, _∙_}
 use mathlib.Core.Bool.{true, false}
 use mathlib.Core.List.{List}
 use native.Mathlib.Decide.{ℕ-discrete, decLt}
@@ -10,10 +10,10 @@ use lib.ListN.{length, getD, set, length-set}
 use lib.Seq.{getD-set-same, getD-set-other}
 use Rattle.matching.specs.Definitions.Nodes.{Master, masterA, masterB}
 use Rattle.bounds.specs.Boxes.{Extreme}
-use Rattle.join.specs.Sizes.{masterRows, blockRows, masterBlocks, tableBlocks}
+use Rattle.join.specs.Sizes.{blockRows, masterBlocks, tableBlocks}
 use Rattle.join.specs.Rows.{Columns, Rows, size, from, to, On, Sound}
 use Rattle.join.specs.Live.{Lists, Sized, rowAt, spotOf, Same, Live, Gathered, Refreshed}
-use Rattle.join.specs.Blocks.{start, stop, half, Block, Spans, Enlisted, Boxes, boxes, Wide, Within, Boxed, Least, SameBox, Framed, Surveyed, Kept, Fenced}
+use Rattle.join.specs.Blocks.{start, stop, half, Block, Spans, Enlisted, Boxes, boxes, Wide, Boxed, Least, SameBox, Framed, Surveyed, Kept, Fenced}
 use Rattle.join.proofs.Laws.Live.{same-refl, same-trans, live-same, live-left}
 use Rattle.join.proofs.Laws.Refresh.{may-refresh, refreshed}
 

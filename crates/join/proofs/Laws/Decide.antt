@@ -1,6 +1,6 @@
 -- What a decision finds: the state's lists are those to look through, and the nearest of the top. Assumes nothing.
-use Prim.Native.Nat.{ℕ, _+_, _-_, _*_, _/_, _<_, _≤_}
-use mathlib.Core.Path.{_≡_, refl, sym, _∙_, ap, ap₂, subst}
+use Prim.Native.Nat.{ℕ, _+_, _-_, _/_, _<_, _≤_}
+use mathlib.Core.Path.{_≡_, sym, _∙_, ap, ap₂, subst}
 use mathlib.Core.List.{List, []}
 use native.Mathlib.Decide.{decLt, decLe}
 use native.Mathlib.Nat.{zero-add}
@@ -15,12 +15,12 @@ use Rattle.join.specs.declared.nearest.Near.{Near}
 use Rattle.join.specs.declared.chain.Move.{Move}
 use Rattle.join.specs.declared.chain.Move.the-variants.{Stop, Push, Take}
 use Rattle.join.specs.declared.chain.State.{State}
-use Rattle.join.specs.Sizes.{masterRows, blockRows, masterBlocks, tableBlocks, numberRange, farKey}
+use Rattle.join.specs.Sizes.{masterRows, masterBlocks, tableBlocks, numberRange, farKey}
 use Rattle.join.specs.Rows.{Placed, Rows, size, from, to, other, On, Faces, faces, gap, between, rest}
 use Rattle.join.specs.Live.{Lists, rowAt, spotOf, Holds, Live}
 use Rattle.join.specs.Blocks.{start, stop, half, Spans, Boxes, Boxed}
 use Rattle.join.specs.Nearest.{key, across, Keyed, AtMost, Guards, From, seed, block, Scanned, Partner, Chosen}
-use Rattle.join.specs.Chain.{Pushed, Begun, Decided, Seeding, Seeded, none, under, Ready}
+use Rattle.join.specs.Chain.{Begun, Decided, Seeding, Seeded, none, under, Ready}
 use Rattle.join.proofs.Laws.Pairs.{closer, leq-packed, placed, faces-swap}
 use Rattle.join.proofs.Laws.Rest.{rest-none}
 use Rattle.join.proofs.Laws.Blocks.{spans, within, in-block}
@@ -31,15 +31,15 @@ across-gap : (R : Rows) (Q : Lists) (t k : ℕ) → Holds (R .ns) (R .xs) (R .ys
 unfolding across gap
 across-gap R Q t k h = ap₂ (squaredDistance (getD (R .xs) t (pos 0)) (getD (R .ys) t (pos 0))) (h .x) (h .y)
 
--- No distance is as far as the farthest key says.
-across-fits : (R : Rows) (Q : Lists) (t k : ℕ) → Placed (R .xs) (R .ys) t → Placed (Q .kx) (Q .ky) k → across (R .xs) (R .ys) (Q .kx) (Q .ky) t k < 4294967295
+-- No key is the one above every key: no distance is that far.
+across-fits : (R : Rows) (Q : Lists) (t k : ℕ) → Placed (R .xs) (R .ys) t → Placed (Q .kx) (Q .ky) k → across (R .xs) (R .ys) (Q .kx) (Q .ky) t k + 1 < numberRange
 unfolding across
 across-fits R Q t k p q =
     let x = getD (R .xs) t (pos 0) in
     let y = getD (R .ys) t (pos 0) in
     let u = getD (Q .kx) k (pos 0) in
     let v = getD (Q .ky) k (pos 0) in
-    distance-fits x y u v (inside-reach x y u v (p .inside) (q .inside))
+    omega (arith, distance-fits x y u v (inside-reach x y u v (p .inside) (q .inside)))
 
 -- The row that faces one of a master's is the other master's.
 facing : (R : Rows) {t k : ℕ} (o : Master) → Faces R t k → On R o t → On R (other o) k

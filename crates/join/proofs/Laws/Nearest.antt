@@ -1,6 +1,6 @@
 -- The search for the nearest of the listed rows: one place at a time, one block at a time. Assumes nothing.
 use Prim.Native.Nat.{ℕ, _+_, _*_, _<_, _≤_}
-use mathlib.Core.Path.{_≡_, refl, sym, _∙_, subst}
+use mathlib.Core.Path.{_≡_, refl, sym, subst}
 use mathlib.Core.Bool.{cond}
 use mathlib.Core.List.{List}
 use native.Mathlib.Decide.{ℕ-discrete, decLt}
@@ -11,7 +11,7 @@ use lib.IntN.{ℤ, pos}
 use borrow.Author.Tests.{lt-ltb, le-ltb}
 use Rattle.bounds.specs.Boxes.{Clear}
 use Rattle.join.specs.declared.nearest.Near.{Near}
-use Rattle.join.specs.Sizes.{masterRows, masterBlocks, numberRange}
+use Rattle.join.specs.Sizes.{masterBlocks, numberRange}
 use Rattle.join.specs.Blocks.{start, Boxes, Boxed}
 use Rattle.join.specs.Nearest.{nearer, across, Keyed, AtMost, Came, kept, found, Sought, From, seed, block, Scanned}
 

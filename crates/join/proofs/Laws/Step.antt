@@ -6,7 +6,7 @@ use mathlib.Core.List.{List, []}
 use native.Mathlib.Omega.{arith}
 use lib.ListN.{length, getD, set, length-set}
 use lib.Seq.{getD-set-other}
-use Rattle.matching.specs.Definitions.Nodes.{Master, masterA, masterB}
+use Rattle.matching.specs.Definitions.Nodes.{masterA, masterB}
 use Rattle.matching.specs.Definitions.Links.{Link}
 use Rattle.matching.specs.Laws.Columns.{links-more}
 use Rattle.matching.specs.Theorems.Mutual.{putLink, put-length, puts, puts-snoc}

@@ -7,7 +7,6 @@ use native.Mathlib.Omega.{arith}
 use lib.ListN.{getD}
 use Rattle.join.specs.Sizes.{blockRows, masterBlocks}
 use Rattle.join.specs.Blocks.{start}
-use Rattle.join.specs.Chain.{Opens}
 use Rattle.join.proofs.chain.begin.Statement.{statement}
 use Rattle.join.proofs.chain.begin.Tie as tie
 

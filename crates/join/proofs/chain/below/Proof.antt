@@ -1,5 +1,5 @@
 -- `chain::below` meets its contract: one case for each way out. Assumes nothing.
-use mathlib.Core.Path.{refl, _∙_, ap, sym}
+use mathlib.Core.Path.{refl}
 use native.Mathlib.Omega.{arith}
 use borrow.Author.Needs.{needs}
 use Rattle.join.specs.Chain.{none, under}

@@ -1,11 +1,10 @@
--- `chain::take` meets its contract: each row loses the lesser, and the link is stored. Assumes nothing.
-use Prim.Native.Nat.{min}
+-- `picks::take` meets its contract: each row loses the lesser, and the link is stored. Assumes nothing.
 use mathlib.Core.Path.{_∙_}
 use native.Mathlib.Omega.{arith}
 use borrow.Author.Needs.{needs}
 use Rattle.join.proofs.Laws.Step.{take-second, taken}
-use Rattle.join.proofs.chain.take.Statement.{statement}
-use Rattle.join.proofs.chain.take.Tie as tie
+use Rattle.join.proofs.picks.take.Statement.{statement}
+use Rattle.join.proofs.picks.take.Tie as tie
 
 mul-lesser : tie.Need-mul-lesser
 mul-lesser c = search needs

@@ -1,9 +1,9 @@
--- `chain::step` meets its contract: each move is a law of the step. Assumes nothing.
+-- `picks::step` meets its contract: each move is a law of the step. Assumes nothing.
 use native.Mathlib.Omega.{arith}
 use borrow.Author.Needs.{needs}
 use Rattle.join.proofs.Laws.Step.{stepped-stop, depth-low, stepped-push, deep, has-row, may-take, stepped-take}
-use Rattle.join.proofs.chain.step.Statement.{statement}
-use Rattle.join.proofs.chain.step.Tie as tie
+use Rattle.join.proofs.picks.step.Statement.{statement}
+use Rattle.join.proofs.picks.step.Tie as tie
 
 decide-requires : tie.Need-decide-requires
 decide-requires c κs = c .before .before .before .before .before .before .before .before .before .before .before .before .before .before .before .before .before .before .before .before .pre .0 .ready

@@ -1,11 +1,11 @@
--- `chain::trim` meets its contract: the row that is tested is the only one that may be the new top. Assumes nothing.
+-- `picks::trim` meets its contract: the row that is tested is the only one that may be the new top. Assumes nothing.
 use Prim.Native.Nat.{_-_, _<_}
-use mathlib.Core.Path.{_≡_, sym}
+use mathlib.Core.Path.{_≡_}
 use native.Mathlib.Omega.{arith}
 use lib.ListN.{length, getD}
 use borrow.Author.Needs.{needs}
-use Rattle.join.proofs.chain.trim.Statement.{statement}
-use Rattle.join.proofs.chain.trim.Tie as tie
+use Rattle.join.proofs.picks.trim.Statement.{statement}
+use Rattle.join.proofs.picks.trim.Tie as tie
 
 inside : (s : tie.Start) → getD (s .args .chain .now) (s .args .depth - 2) 0 < length (s .args .left .now)
 inside s = s .pre .2 (s .args .depth - 2) (omega (arith, s .pre .0))

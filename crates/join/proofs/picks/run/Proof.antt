@@ -1,4 +1,4 @@
--- `chain::run` meets its contract. The loop's invariant: the links taken, put into those still to be taken, are the join of what was left at first.
+-- `picks::run` meets its contract. The loop's invariant: the links taken, put into those still to be taken, are the join of what was left at first.
 -- The measure is the step's. Assumes nothing.
 use Prim.Native.Nat.{ℕ}
 use mathlib.Core.Path.{_≡_, refl, sym, _∙_}
@@ -13,8 +13,8 @@ use Rattle.join.specs.Blocks.{boxes}
 use Rattle.join.specs.Order.{table}
 use Rattle.join.specs.Chain.{Good, whole, toGo}
 use Rattle.join.proofs.Laws.Step.{good-start}
-use Rattle.join.proofs.chain.run.Statement.{statement}
-use Rattle.join.proofs.chain.run.Tie as tie
+use Rattle.join.proofs.picks.run.Statement.{statement}
+use Rattle.join.proofs.picks.run.Tie as tie
 
 abbrev Inv-loop : tie.InvT-loop
 Inv-loop split ns xs ys left₀ live₀ spot₀ kn₀ kx₀ ky₀ ends₀ west east south north least chain₀ la₀ lb₀ ld₀ lm₀ s₀ left live spot kn kx ky ends chain la lb ld lm s = Good (rows ns xs ys split) left (lists live spot kn kx ky) ends (boxes west east south north least) chain (table la lb ld lm) s × (whole (rows ns xs ys split) left (table la lb ld lm) (s .links) ≡ rest (rows ns xs ys split) left₀) × (s .more ≡ false → rest (rows ns xs ys split) left ≡ [])

@@ -1,10 +1,10 @@
--- `chain::pick` meets its contract: the blocks of both masters are listed and get their boxes, and the run takes the pairs. Assumes nothing.
+-- `picks::pick` meets its contract: the blocks of both masters are listed and get their boxes, and the run takes the pairs. Assumes nothing.
 use mathlib.Core.Path.{refl, _∙_}
 use borrow.Author.Needs.{needs}
 use Rattle.matching.specs.Definitions.Nodes.{masterA, masterB}
 use Rattle.join.proofs.Laws.Blocks.{spans, kept-start, fenced-start}
-use Rattle.join.proofs.chain.pick.Statement.{statement}
-use Rattle.join.proofs.chain.pick.Tie as tie
+use Rattle.join.proofs.picks.pick.Statement.{statement}
+use Rattle.join.proofs.picks.pick.Tie as tie
 
 slice-aggregate-enlist : tie.Need-slice-aggregate-enlist
 slice-aggregate-enlist c = search needs
