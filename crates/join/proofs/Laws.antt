@@ -3,6 +3,7 @@ pub mod Pairs
 pub mod Rest
 pub mod Live
 pub mod Refresh
+pub mod Blocks
 pub mod Nearest
 pub mod Chain
 pub mod Decide

@@ -5,7 +5,7 @@ use mathlib.Core.Bool.{Bool, true, false, cond}
 use mathlib.Core.List.{List, []}
 use lib.Dec.{ltb}
 use lib.ListN.{length, getD, set}
-use Rattle.matching.specs.Definitions.Nodes.{Master, each}
+use lib.IntN.{ℤ}
 use Rattle.matching.specs.Definitions.Pairs.{Before}
 use Rattle.matching.specs.Definitions.Links.{Link}
 use Rattle.matching.specs.Definitions.Columns.{linksOf}
@@ -13,11 +13,13 @@ use Rattle.matching.specs.Theorems.Mutual.{puts}
 use Rattle.join.specs.declared.chain.Move.{Move}
 use Rattle.join.specs.declared.chain.Move.the-variants.{Stop, Push, Take}
 use Rattle.join.specs.declared.chain.State.{State}
-use Rattle.join.specs.Sizes.{linkRows, chainRows}
-use Rattle.join.specs.Rows.{Rows, size, from, to, gap, Faces, between, rest, Sound}
-use Rattle.join.specs.Live.{Lists, Sized, Live}
+use Rattle.join.specs.declared.nearest.Near.{Near}
+use Rattle.join.specs.Sizes.{linkRows, chainRows, farKey}
+use Rattle.join.specs.Rows.{Rows, size, gap, Placed, Faces, between, rest, Sound}
+use Rattle.join.specs.Live.{Lists}
+use Rattle.join.specs.Blocks.{start, Boxes, Kept, Fenced}
 use Rattle.join.specs.Contract.{Room}
-use Rattle.join.specs.Nearest.{Nearest, Chosen}
+use Rattle.join.specs.Nearest.{Keyed, Nearest, Chosen}
 use Rattle.join.specs.Order.{Table, linksIn, stored}
 
 module _ (R : Rows) (left chain : List ℕ) (n : ℕ) where
@@ -56,6 +58,31 @@ module _ (R : Rows) (left chain : List ℕ) (n : ℕ) where
   Decided (Push w) = Pushed w
   Decided (Take i j d) = Mutually i j d × (i < R .split)
 
+-- A chain begins with row w: the first that a block of A lists.
+pub record Opens (live E : List ℕ) (split w : ℕ) : Type 0 where
+  pub block : ℕ
+  pub some : start 0 block < split
+  pub listed : start 0 block < getD E block 0
+  pub is : w ≡ getD live (start 0 block) 0
+
+-- How a chain begins, or that A lists no row.
+abbrev pub Begun : List ℕ → List ℕ → ℕ → Move → Type 0
+Begun live E split Stop = (i : ℕ) → start 0 i < split → getD E i 0 ≤ start 0 i
+Begun live E split (Push w) = Opens live E split w
+Begun live E split (Take i j d) = ⊥
+
+-- On a chain of n rows the row below the top is listed, if there is one.
+pub record Seeding (chain spot kn : List ℕ) (kx ky : List ℤ) (n : ℕ) : Type 0 where
+  pub room : n ≤ length chain
+  pub row : 2 ≤ n → getD chain (n - 2) 0 < length spot
+  pub place : 2 ≤ n → getD spot (getD chain (n - 2) 0) 0 < length kn
+  pub placed : 2 ≤ n → Placed kx ky (getD spot (getD chain (n - 2) 0) 0)
+
+-- The nearest before a search from row t: the row below the top of a chain of n rows, or none.
+pub data Seeded (xs ys : List ℤ) (kn : List ℕ) (kx ky : List ℤ) (chain spot : List ℕ) (t n : ℕ) (s : Near) : Type 0 where
+  none : n < 2 → s .key ≡ farKey → Seeded xs ys kn kx ky chain spot t n s
+  under : 2 ≤ n → s .at ≡ getD spot (getD chain (n - 2) 0) 0 → Keyed xs ys kn kx ky t (s .at) (s .key) → Seeded xs ys kn kx ky chain spot t n s
+
 -- The pair of two rows, A's first.
 unfoldable pub sides : ℕ → ℕ → ℕ → ℕ → Move
 sides t w d split = cond (ltb t split) (Take t w d) (Take w t d)
@@ -65,10 +92,11 @@ pub record Trimmed (left chain : List ℕ) (n r : ℕ) : Type 0 where
   pub less : r < n
   pub top : (h : ℕ) → h < r → n ≤ h + 2 → 1 ≤ getD left (getD chain h 0) 0
 
--- A pair is taken: its rows lose the lesser of what they have left, and row n of the links says so.
-pub record Taken (ns left : List ℕ) (i j d n : ℕ) (L : Table) (left' : List ℕ) (L' : Table) : Type 0 where
+-- A pair is taken: its rows lose the lesser of what they have left, the lists are kept, and row n of the links says so.
+pub record Taken (R : Rows) (left : List ℕ) (i j d n : ℕ) (L : Table) (left' : List ℕ) (Q' : Lists) (E' : List ℕ) (L' : Table) : Type 0 where
   pub lefts : left' ≡ set (set left i (getD left i 0 - min (getD left i 0) (getD left j 0))) j (getD left j 0 - min (getD left i 0) (getD left j 0))
-  pub links : L' ≡ stored L n (record { a = getD ns i 0; b = getD ns j 0; distance = d; amount = min (getD left i 0) (getD left j 0) })
+  pub kept : Kept R left' Q' E'
+  pub links : L' ≡ stored L n (record { a = getD (R .ns) i 0; b = getD (R .ns) j 0; distance = d; amount = min (getD left i 0) (getD left j 0) })
 
 -- 1 for true.
 abbrev pub bit : Bool → ℕ
@@ -81,16 +109,16 @@ module _ (R : Rows) where
   unfolding rest linksOf puts
   whole left L n = puts (linksIn L n) (rest R left)
 
-  -- The rows, the lists of those that have something left, and the chain.
-  pub record Ready (left : List ℕ) (Q : Lists) (chain : List ℕ) (s : State) : Type 0 where
+  -- The rows, the blocks' lists and boxes, and the chain.
+  pub record Ready (left : List ℕ) (Q : Lists) (E : List ℕ) (B : Boxes) (chain : List ℕ) (s : State) : Type 0 where
     pub sound : Sound R left
-    pub sized : Sized Q (size R)
-    pub lists : (m : Master) → Live (R .ns) (R .xs) (R .ys) left Q (from R m) (to R m) (each (s .a) (s .b) m)
+    pub kept : Kept R left Q E
+    pub fenced : Fenced R B
     pub path : Chain R left chain (s .depth)
 
   -- The state of a run.
-  pub record Good (left : List ℕ) (Q : Lists) (chain : List ℕ) (L : Table) (s : State) : Type 0 where
-    pub ready : Ready left Q chain s
+  pub record Good (left : List ℕ) (Q : Lists) (E : List ℕ) (B : Boxes) (chain : List ℕ) (L : Table) (s : State) : Type 0 where
+    pub ready : Ready left Q E B chain s
     pub room : Room (L .la) (L .lb) (L .ld) (L .lm)
     pub count : s .links + length (rest R left) ≤ linkRows
 
@@ -99,8 +127,8 @@ module _ (R : Rows) where
   toGo left s = length (rest R left) * (chainRows + 2) + (chainRows - s .depth) + bit (s .more)
 
   -- What a step does.
-  pub record Stepped (left : List ℕ) (L : Table) (s : State) (left' : List ℕ) (Q' : Lists) (chain' : List ℕ) (L' : Table) (r : State) : Type 0 where
-    pub good : Good left' Q' chain' L' r
+  pub record Stepped (B : Boxes) (left : List ℕ) (L : Table) (s : State) (left' : List ℕ) (Q' : Lists) (E' chain' : List ℕ) (L' : Table) (r : State) : Type 0 where
+    pub good : Good left' Q' E' B chain' L' r
     pub same : whole left' L' (r .links) ≡ whole left L (s .links)
     pub falls : toGo left' r < toGo left s
     pub ends : r .more ≡ false → rest R left' ≡ []

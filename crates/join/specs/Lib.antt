@@ -3,6 +3,7 @@ pub mod Sizes
 pub mod Rows
 pub mod Contract
 pub mod Live
+pub mod Blocks
 pub mod Nearest
 pub mod Order
 pub mod Chain

@@ -1,4 +1,4 @@
--- The lists of the rows that have something left, one for each master, in the same columns: A's from place 0 on, B's from where B's rows begin.
+-- The lists of the rows that have something left: the rows from a first to an end are listed in the places from there on.
 use Prim.Native.Nat.{ℕ, _+_, _-_, _<_, _≤_}
 use mathlib.Core.Path.{_≡_}
 use mathlib.Core.List.{List}

@@ -11,7 +11,7 @@ use Rattle.matching.specs.Definitions.Pairs.{Pair, squaredDistance}
 use Rattle.matching.specs.Definitions.Links.{Link}
 use Rattle.matching.specs.Definitions.Join.{join}
 use Rattle.matching.specs.Definitions.Columns.{tabulate, nodeAt, Inside}
-use Rattle.join.specs.Sizes.{tableRows}
+use Rattle.join.specs.Sizes.{masterRows, tableRows}
 
 -- Columns of numbers and positions, of one length, with every position inside.
 pub record Columns (ns : List ℕ) (xs ys : List ℤ) : Type 0 where
@@ -89,6 +89,7 @@ module _ (R : Rows) where
     pub len-c : length left ≡ size
     pub parts : R .split ≤ size
     pub most : size ≤ tableRows
+    pub masters : (s : Master) → to s ≤ from s + masterRows
     pub distinct : (s : Master) (i k : ℕ) → On s i → On s k → getD (R .ns) i 0 ≡ getD (R .ns) k 0 → i ≡ k
 
 -- The table has 1,024 rows.

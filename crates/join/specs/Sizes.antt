@@ -15,6 +15,20 @@ linkRows = 1023
 abbrev pub chainRows : ℕ
 chainRows = 1025
 
+-- The rows of a block, the blocks of a master, and those of both.
+abbrev pub blockRows : ℕ
+blockRows = 32
+
+abbrev pub masterBlocks : ℕ
+masterBlocks = 16
+
+abbrev pub tableBlocks : ℕ
+tableBlocks = 32
+
 -- Numbers are below this: what a key multiplies a distance by.
 abbrev pub numberRange : ℕ
 numberRange = 4294967296
+
+-- Above every key.
+abbrev pub farKey : ℕ
+farKey = 18446744073709551615

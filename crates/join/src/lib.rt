@@ -1,7 +1,9 @@
 // The join of two masters, by a chain of nearest neighbours.
+mod blocks;
 mod chain;
 pub mod nearest;
 mod order;
+mod picks;
 mod rows;
 pub mod sizes;
 
@@ -32,12 +34,12 @@ pub fn join(
     let mut xs = [0i16; sizes::ROWS];
     let mut ys = [0i16; sizes::ROWS];
     let mut left = [0u32; sizes::ROWS];
-    let mut live = [0usize; sizes::ROWS];
-    let mut spot = [0usize; sizes::ROWS];
+    let mut live = [0u16; sizes::ROWS];
+    let mut spot = [0u16; sizes::ROWS];
     let mut kn = [0u32; sizes::ROWS];
     let mut kx = [0i16; sizes::ROWS];
     let mut ky = [0i16; sizes::ROWS];
-    let mut chain = [0usize; sizes::CHAIN];
+    let mut chain = [0u16; sizes::CHAIN];
     rows::fill(
         an,
         ax,
@@ -53,7 +55,7 @@ pub fn join(
         &mut left,
     );
     let size = an.len() + bn.len();
-    let n = chain::pick(
+    let n = picks::pick(
         an.len(),
         &ns[..size],
         &xs[..size],

@@ -1,11 +1,26 @@
 // The rows of both masters in one table, and the lists of those that have something left.
 ghost use mathlib.Core.Path.{_≡_};
-ghost use Prim.Native.Nat.{_+_, _-_, _<_, _≤_};
+ghost use Prim.Native.Nat.{_+_, _-_, _<_, _≤_, min};
 ghost use lib.ListN.{length, getD};
 ghost use Rattle.join.specs.Sizes.{tableRows};
 ghost use Rattle.join.specs.Rows.{Full, Loaded, Filled, Columns};
 ghost use Rattle.join.specs.Contract.{Fit};
 ghost use Rattle.join.specs.Live.{lists, entered, Sized, Noted, Gathered, Refreshed};
+
+// The lesser of two numbers.
+pub fn lesser(x: u32, y: u32) -> u32
+    ensures { λ r. ⌜ r ≡ min x y ⌝ }
+{
+    if x < y { x } else { y }
+}
+
+// A row or a place, which columns hold in two bytes.
+pub fn wide(column: &[u16], k: usize) -> usize
+    requires { ⌜ k < length (now column) ⌝ }
+    ensures { λ r. ⌜ r ≡ getD (now (column .entry)) k 0 ⌝ }
+{
+    column[k] as usize
+}
 
 // Copies a master's columns into the rows from `at` on.
 fn load(
@@ -64,17 +79,17 @@ fn enter(
     ns: &[u32],
     xs: &[i16],
     ys: &[i16],
-    live: &mut [usize],
-    spot: &mut [usize],
+    live: &mut [u16],
+    spot: &mut [u16],
     kn: &mut [u32],
     kx: &mut [i16],
     ky: &mut [i16],
 )
-    requires { ⌜ Columns (now ns) (now xs) (now ys) × Sized (lists (now live) (now spot) (now kn) (now kx) (now ky)) (length (now ns)) × (r < length (now ns)) × (w < length (now ns)) ⌝ }
+    requires { ⌜ Columns (now ns) (now xs) (now ys) × Sized (lists (now live) (now spot) (now kn) (now kx) (now ky)) (length (now ns)) × (r < length (now ns)) × (w < length (now ns)) × (length (now ns) ≤ tableRows) ⌝ }
     ensures { λ _. ⌜ lists (now (live .exit)) (now (spot .exit)) (now (kn .exit)) (now (kx .exit)) (now (ky .exit)) ≡ entered (now (ns .entry)) (now (xs .entry)) (now (ys .entry)) (lists (now (live .entry)) (now (spot .entry)) (now (kn .entry)) (now (kx .entry)) (now (ky .entry))) w r ⌝ }
 {
-    live[w] = r;
-    spot[r] = w;
+    live[w] = r as u16;
+    spot[r] = w as u16;
     kn[w] = ns[r];
     kx[w] = xs[r];
     ky[w] = ys[r];
@@ -88,13 +103,13 @@ fn list(
     xs: &[i16],
     ys: &[i16],
     left: &[u32],
-    live: &mut [usize],
-    spot: &mut [usize],
+    live: &mut [u16],
+    spot: &mut [u16],
     kn: &mut [u32],
     kx: &mut [i16],
     ky: &mut [i16],
 ) -> usize
-    requires { ⌜ Columns (now ns) (now xs) (now ys) × Sized (lists (now live) (now spot) (now kn) (now kx) (now ky)) (length (now ns)) × (length (now left) ≡ length (now ns)) × (r < length (now ns)) × (w < length (now ns)) ⌝ }
+    requires { ⌜ Columns (now ns) (now xs) (now ys) × Sized (lists (now live) (now spot) (now kn) (now kx) (now ky)) (length (now ns)) × (length (now left) ≡ length (now ns)) × (r < length (now ns)) × (w < length (now ns)) × (length (now ns) ≤ tableRows) ⌝ }
     ensures { λ e. ⌜ Noted (now (ns .entry)) (now (xs .entry)) (now (ys .entry)) (now (left .entry)) r w (lists (now (live .entry)) (now (spot .entry)) (now (kn .entry)) (now (kx .entry)) (now (ky .entry))) (lists (now (live .exit)) (now (spot .exit)) (now (kn .exit)) (now (kx .exit)) (now (ky .exit))) e ⌝ }
 {
     if left[r] == 0 {
@@ -112,13 +127,13 @@ pub fn gather(
     xs: &[i16],
     ys: &[i16],
     left: &[u32],
-    live: &mut [usize],
-    spot: &mut [usize],
+    live: &mut [u16],
+    spot: &mut [u16],
     kn: &mut [u32],
     kx: &mut [i16],
     ky: &mut [i16],
 ) -> usize
-    requires { ⌜ Columns (now ns) (now xs) (now ys) × Sized (lists (now live) (now spot) (now kn) (now kx) (now ky)) (length (now ns)) × (length (now left) ≡ length (now ns)) × (first ≤ end) × (end ≤ length (now ns)) ⌝ }
+    requires { ⌜ Columns (now ns) (now xs) (now ys) × Sized (lists (now live) (now spot) (now kn) (now kx) (now ky)) (length (now ns)) × (length (now left) ≡ length (now ns)) × (first ≤ end) × (end ≤ length (now ns)) × (length (now ns) ≤ tableRows) ⌝ }
     ensures { λ e. ⌜ Gathered (now (ns .entry)) (now (xs .entry)) (now (ys .entry)) (now (left .entry)) first end (lists (now (live .entry)) (now (spot .entry)) (now (kn .entry)) (now (kx .entry)) (now (ky .entry))) (lists (now (live .exit)) (now (spot .exit)) (now (kn .exit)) (now (kx .exit)) (now (ky .exit))) e ⌝ }
 {
     let mut w = first;
@@ -138,21 +153,21 @@ pub fn refresh(
     xs: &[i16],
     ys: &[i16],
     left: &[u32],
-    live: &mut [usize],
-    spot: &mut [usize],
+    live: &mut [u16],
+    spot: &mut [u16],
     kn: &mut [u32],
     kx: &mut [i16],
     ky: &mut [i16],
 ) -> usize
     requires { ⌜ Columns (now ns) (now xs) (now ys) × Sized (lists (now live) (now spot) (now kn) (now kx) (now ky)) (length (now ns)) × (length (now left) ≡ length (now ns)) ⌝ }
-    requires { ⌜ (row < length (now ns)) × (getD (now spot) row 0 < length (now ns)) × (1 ≤ e) × (e ≤ length (now ns)) × (getD (now live) (e - 1) 0 < length (now ns)) ⌝ }
+    requires { ⌜ (row < length (now ns)) × (getD (now spot) row 0 < length (now ns)) × (1 ≤ e) × (e ≤ length (now ns)) × (getD (now live) (e - 1) 0 < length (now ns)) × (length (now ns) ≤ tableRows) ⌝ }
     ensures { λ r. ⌜ Refreshed (now (ns .entry)) (now (xs .entry)) (now (ys .entry)) (now (left .entry)) row e (lists (now (live .entry)) (now (spot .entry)) (now (kn .entry)) (now (kx .entry)) (now (ky .entry))) (lists (now (live .exit)) (now (spot .exit)) (now (kn .exit)) (now (kx .exit)) (now (ky .exit))) r ⌝ }
 {
     if left[row] != 0 {
         return e;
     }
-    let r = live[e - 1];
-    let w = spot[row];
+    let r = wide(live, e - 1);
+    let w = wide(spot, row);
     enter(r, w, ns, xs, ys, live, spot, kn, kx, ky);
     e - 1
 }

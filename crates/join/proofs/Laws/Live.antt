@@ -12,7 +12,7 @@ use Rattle.join.specs.Live.{Lists, Sized, rowAt, spotOf, Same, Elsewhere
 pub same-refl : (Q : Lists) (k : ℕ) → Same Q Q k
 same-refl Q k = record { live = refl; spot = refl; n = refl; x = refl; y = refl }
 
-same-trans : (Q P O : Lists) (k : ℕ) → Same Q P k → Same P O k → Same Q O k
+pub same-trans : (Q P O : Lists) (k : ℕ) → Same Q P k → Same P O k → Same Q O k
 same-trans Q P O k a b = record { live = b .live ∙ a .live; spot = b .spot ∙ a .spot; n = b .n ∙ a .n; x = b .x ∙ a .x; y = b .y ∙ a .y }
 
 module _ (ns : List ℕ) (xs ys : List ℤ) where
@@ -89,6 +89,17 @@ module _ (ns : List ℕ) (xs ys : List ℤ) where
 
       all : (r : ℕ) → first ≤ r → r < end → (first ≤ spotOf Q r) × (spotOf Q r < e) × (rowAt Q (spotOf Q r) ≡ r) → (first ≤ spotOf P r) × (spotOf P r < e) × (rowAt P (spotOf P r) ≡ r)
       all r a b v = rw (h r a b .spot) (v .0, v .1, row (spotOf Q r) (v .0) (v .1) ∙ v .2)
+
+  -- A list whose rows have what they had.
+  pub live-left : (left less : List ℕ) (Q : Lists) (first end e : ℕ) → ((q : ℕ) → first ≤ q → q < end → getD less q 0 ≡ getD left q 0) → Live ns xs ys left Q first end e → Live ns xs ys less Q first end e
+  live-left left less Q first end e h l = record {
+    low = l .low;
+    high = l .high;
+    holds = l .holds;
+    on = l .on;
+    alive = λ k a b. rw (h (rowAt Q k) (l .on k a b .0) (l .on k a b .1)) (l .alive k a b);
+    all = λ r a b v. l .all r a b (omega (arith, h r a b));
+  }
 
   -- Rows are listed one by one: those before row k are done, and w is the next free place.
   module _ (left : List ℕ) (first end : ℕ) (Q₀ : Lists) where

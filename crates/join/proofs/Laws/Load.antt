@@ -12,8 +12,8 @@ use Rattle.matching.specs.Definitions.Nodes.{Master, masterA, masterB, Node, Un
 use Rattle.matching.specs.Definitions.Join.{join}
 use Rattle.matching.specs.Definitions.Columns.{tabulate, nodeAt, nodesOf, Inside}
 use Rattle.matching.specs.Laws.Columns.{nodes-length, nodes-get, same-place}
-use Rattle.join.specs.Sizes.{tableRows}
-use Rattle.join.specs.Rows.{Columns, Rows, rows, size, On, rest, Sound, Full, Loaded, Filled}
+use Rattle.join.specs.Sizes.{masterRows, tableRows}
+use Rattle.join.specs.Rows.{Columns, Rows, rows, size, from, to, On, rest, Sound, Full, Loaded, Filled}
 use Rattle.join.specs.Live.{lists, Sized}
 use Rattle.join.specs.Contract.{Fit}
 
@@ -151,6 +151,7 @@ module _ (an : List ℕ) (ax ay : List ℤ) (ac bn : List ℕ) (bx by : List ℤ
     len-c = len left (full .in-left) ∙ sym all;
     parts = omega (arith, all);
     most = omega (arith, all, fa .most, fb .most);
+    masters = masters;
     distinct = distinct;
   }
     where
@@ -160,6 +161,10 @@ module _ (an : List ℕ) (ax ay : List ℤ) (ac bn : List ℕ) (bx by : List ℤ
       inside : (k : ℕ) → k < length (take n ns) → Dec (k < length an) → Inside (getD (take n xs) k (pos 0)) (getD (take n ys) k (pos 0))
       inside k h (yes l) = inside-of an ax ay ac 0 node row-a (fa .columns) k (omega arith) (omega arith)
       inside k h (no l) = inside-of bn bx by bc (length an) node row-b (fb .columns) k (omega arith) (omega (arith, all))
+
+      masters : (s : Master) → to R s ≤ from R s + masterRows
+      masters masterA = omega (arith, fa .most)
+      masters masterB = omega (arith, all, fb .most)
 
       distinct : (s : Master) (i k : ℕ) → On R s i → On R s k → getD (take n ns) i 0 ≡ getD (take n ns) k 0 → i ≡ k
       distinct masterA i k h g e = distinct-of an ax ay ac 0 node row-a (fa .unique) i k (h .0) (omega arith) (g .0) (omega arith) e

@@ -1,6 +1,6 @@
--- The search for the nearest of the listed rows, one place at a time. Assumes nothing.
-use Prim.Native.Nat.{ℕ, _+_, _*_, _/_, _<_, _≤_}
-use mathlib.Core.Path.{_≡_, refl, sym, _∙_, ap, ap₂, subst}
+-- The search for the nearest of the listed rows: one place at a time, one block at a time. Assumes nothing.
+use Prim.Native.Nat.{ℕ, _+_, _*_, _<_, _≤_}
+use mathlib.Core.Path.{_≡_, refl, sym, subst}
 use mathlib.Core.Bool.{cond}
 use mathlib.Core.List.{List}
 use native.Mathlib.Decide.{ℕ-discrete, decLt}
@@ -9,83 +9,70 @@ use lib.Dec.{ltb}
 use lib.ListN.{getD}
 use lib.IntN.{ℤ, pos}
 use borrow.Author.Tests.{lt-ltb, le-ltb}
-use Rattle.matching.specs.Definitions.Nodes.{Master, masterA, masterB}
-use Rattle.matching.specs.Definitions.Pairs.{squaredDistance}
-use Rattle.matching.specs.Laws.Earliest.{Leq}
+use Rattle.bounds.specs.Boxes.{Clear}
 use Rattle.join.specs.declared.nearest.Near.{Near}
-use Rattle.join.specs.Sizes.{numberRange}
-use Rattle.join.specs.Rows.{Rows, gap, other, from, to, On, Faces, faces, between}
-use Rattle.join.specs.Live.{Lists, rowAt, spotOf, Holds, Live}
-use Rattle.join.specs.Nearest.{key, nearer, across, Packed, Keyed, Seen, Chosen}
-use Rattle.join.proofs.Laws.Pairs.{closer, leq-packed}
+use Rattle.join.specs.Sizes.{masterBlocks, numberRange}
+use Rattle.join.specs.Blocks.{start, Boxes, Boxed}
+use Rattle.join.specs.Nearest.{nearer, across, Keyed, AtMost, Came, kept, found, Sought, From, seed, block, Scanned}
 
 module _ (xs ys : List ℤ) (kn : List ℕ) (kx ky : List ℤ) (t first : ℕ) where
-  abbrev least : ℕ → ℕ → Type 0
-  least c k = (c ≤ across xs ys kx ky t k * numberRange + getD kn k 0) × (getD kn k 0 < numberRange)
+  -- No place yet.
+  pub sought-none : (end : ℕ) (s : Near) → end ≤ first → Sought xs ys kn kx ky t first end s s
+  sought-none end s h = record { less = omega arith; least = λ k a b. absurd (omega arith); came = kept refl }
 
-  pub seen-start : (c : ℕ) → Keyed xs ys kn kx ky t first c → Seen xs ys kn kx ky t first (first + 1) (record { key = c; at = first })
-  seen-start c p = record { low = omega arith; high = omega arith; is = p; least = λ k a b. go k (omega arith) }
-    where
-      go : (k : ℕ) → k ≡ first → least c k
-      go k e = rw e (omega (arith, p .is), p .small)
-
-  pub seen-on : (k : ℕ) (s r : Near) (c : ℕ) → Seen xs ys kn kx ky t first k s → Keyed xs ys kn kx ky t k c → r ≡ nearer s c k → Seen xs ys kn kx ky t first (k + 1) r
+  -- A place more.
+  pub sought-on : (k : ℕ) (s r w : Near) (c : ℕ) → first ≤ k → Sought xs ys kn kx ky t first k s r → Keyed xs ys kn kx ky t k c → w ≡ nearer r c k → Sought xs ys kn kx ky t first (k + 1) s w
   unfolding nearer
-  seen-on k s r c v p e = subst (Seen xs ys kn kx ky t first (k + 1)) (sym e) (go (decLt c (s .key)))
+  sought-on k s r w c low v p e = subst (Sought xs ys kn kx ky t first (k + 1) s) (sym e) (go (decLt c (r .key)))
     where
       -- what holds of the places before and of this one
-      more : (m : ℕ) → ((q : ℕ) → first ≤ q → q < k → least m q) → least m k → (q : ℕ) → first ≤ q → q < k + 1 → least m q
+      more : (m : ℕ) → ((q : ℕ) → first ≤ q → q < k → AtMost xs ys kn kx ky t q m) → AtMost xs ys kn kx ky t k m → (q : ℕ) → first ≤ q → q < k + 1 → AtMost xs ys kn kx ky t q m
       more m f g q a b = at (ℕ-discrete q k)
         where
-          at : Dec (q ≡ k) → least m q
+          at : Dec (q ≡ k) → AtMost xs ys kn kx ky t q m
           at (yes d) = rw d g
           at (no d) = f q a (omega arith)
 
-      go : Dec (c < s .key) → Seen xs ys kn kx ky t first (k + 1) (cond (ltb c (s .key)) (record { key = c; at = k }) s)
+      came : Came xs ys kn kx ky t first k s r → Came xs ys kn kx ky t first (k + 1) s r
+      came (kept d) = kept d
+      came (found a b d) = found a (omega arith) d
+
+      go : Dec (c < r .key) → Sought xs ys kn kx ky t first (k + 1) s (cond (ltb c (r .key)) (record { key = c; at = k }) r)
       go (yes l) =
-          rw (lt-ltb c (s .key) l)
-          (record { low = omega (arith, v .low, v .high); high = omega arith; is = p; least = more c (λ q a b. (omega (arith, v .least q a b .0), v .least q a b .1)) (omega (arith, p .is), p .small) })
+          rw (lt-ltb c (r .key) l)
+          (record { less = omega (arith, v .less); least = more c (λ q a b. omega (arith, v .least q a b)) (omega (arith, p .is)); came = found low (omega arith) p })
       go (no l) =
-          rw (le-ltb c (s .key) (omega arith))
-          (record { low = v .low; high = omega (arith, v .high); is = v .is; least = more (s .key) (v .least) (omega (arith, p .is), p .small) })
+          rw (le-ltb c (r .key) (omega arith))
+          (record { less = v .less; least = more (r .key) (v .least) (omega (arith, p .is)); came = came (v .came) })
 
--- A place is as far as its row.
-across-gap : (R : Rows) (Q : Lists) (t k : ℕ) → Holds (R .ns) (R .xs) (R .ys) Q k → across (R .xs) (R .ys) (Q .kx) (Q .ky) t k ≡ gap (R .xs) (R .ys) t (rowAt Q k)
-unfolding across gap
-across-gap R Q t k h = ap₂ (squaredDistance (getD (R .xs) t (pos 0)) (getD (R .ys) t (pos 0))) (h .x) (h .y)
+  -- A block is too far away: no place in its box has a lesser key.
+  pub sought-skip : (B : Boxes) (b end d : ℕ) (s : Near) → Boxed kn kx ky B b first end
+      → Clear (getD xs t (pos 0)) (getD ys t (pos 0)) (getD (B .west) b (pos 0)) (getD (B .east) b (pos 0)) (getD (B .south) b (pos 0)) (getD (B .north) b (pos 0)) d
+      → s .key ≤ d * numberRange + getD (B .least) b 0 → Sought xs ys kn kx ky t first end s s
+  unfolding across
+  sought-skip B b end d s x c h = record { less = omega arith; least = λ k f g. least k f g; came = kept refl }
+    where
+      least : (k : ℕ) → first ≤ k → k < end → AtMost xs ys kn kx ky t k (s .key)
+      least k f g =
+          let w = x .within k f g in
+          omega (arith, c .nearest (getD kx k (pos 0)) (getD ky k (pos 0)) (w .west) (w .east) (w .south) (w .north), w .least)
 
--- A search through the other master's list finds the nearest row.
-pub chosen : (R : Rows) (left : List ℕ) (Q : Lists) (s : Master) (t e : ℕ) (w : Near) → On R s t → Live (R .ns) (R .xs) (R .ys) left Q (from R (other s)) (to R (other s)) e
-    → Seen (R .xs) (R .ys) (Q .kn) (Q .kx) (Q .ky) t (from R (other s)) e w → Chosen R left t (rowAt Q (w .at)) (w .key / numberRange)
-chosen R left Q s t e w h l v = record {
-  faces = faces s h (l .on (w .at) (v .low) (v .high));
-  alive = l .alive (w .at) (v .low) (v .high);
-  is-d = omega (arith, v .is .is, v .is .small) ∙ here (w .at) (v .low) (v .high);
-  nearest = λ k f a. nearest k (facing s f h) a;
-}
-  where
-    here : (k : ℕ) → from R (other s) ≤ k → k < e → across (R .xs) (R .ys) (Q .kx) (Q .ky) t k ≡ gap (R .xs) (R .ys) t (rowAt Q k)
-    here k a b = across-gap R Q t k (l .holds k a b)
+module _ (xs ys : List ℤ) (kn : List ℕ) (kx ky : List ℤ) (E : List ℕ) (t h first end : ℕ) (s : Near) where
+  pub scanned-none : Scanned xs ys kn kx ky E t h first end 0 s s
+  scanned-none = record { less = omega arith; least = λ i l. absurd (omega arith); came = seed refl }
 
-    facing : {k : ℕ} (s : Master) → Faces R t k → On R s t → On R (other s) k
-    facing masterA (faces masterA a b) g = b
-    facing masterB (faces masterB a b) g = b
-    facing masterA (faces masterB a b) g = absurd (omega arith)
-    facing masterB (faces masterA a b) g = absurd (omega arith)
+  module _ (n : ℕ) (r : Near) (v : Scanned xs ys kn kx ky E t h first end n s r) where
+    -- A block more.
+    pub scanned-on : (w : Near) → start first n < end → Sought xs ys kn kx ky t (start first n) (getD E (h + n) 0) r w → Scanned xs ys kn kx ky E t h first end (n + 1) s w
+    scanned-on w some g = record { less = omega (arith, v .less, g .less); least = λ i l o. least i l o (ℕ-discrete i n); came = came (g .came) (v .came) }
+      where
+        least : (i : ℕ) → i < n + 1 → start first i < end → Dec (i ≡ n) → (k : ℕ) → start first i ≤ k → k < getD E (h + i) 0 → AtMost xs ys kn kx ky t k (w .key)
+        least i l o (yes d) = rw d (g .least)
+        least i l o (no d) = λ k a b. omega (arith, v .least i (omega arith) o k a b, g .less)
 
-    -- the key of a place is that of its row
-    keyed : (k : ℕ) → from R (other s) ≤ k → k < e
-        → Leq (key (gap (R .xs) (R .ys) t (rowAt Q (w .at))) (getD (R .ns) (rowAt Q (w .at)) 0)) (key (gap (R .xs) (R .ys) t (rowAt Q k)) (getD (R .ns) (rowAt Q k) 0))
-    keyed k a b =
-        let i = here (w .at) (v .low) (v .high) in
-        let j = here k a b in
-        let m = l .holds (w .at) (v .low) (v .high) .n in
-        let o = l .holds k a b .n in
-        leq-packed _ _ _ _ (omega (arith, v .is .small, m)) (omega (arith, v .least k a b .1, o)) (omega (arith, v .least k a b .0, v .is .is, i, j, m, o))
+        came : Came xs ys kn kx ky t (start first n) (getD E (h + n) 0) r w → From xs ys kn kx ky E t h first end s r → From xs ys kn kx ky E t h first end s w
+        came (kept d) f = subst (From xs ys kn kx ky E t h first end s) (sym d) f
+        came (found a b d) f = block n some a b d
 
-    nearest : (k : ℕ) → On R (other s) k → 1 ≤ getD left k 0 → Leq (between R t (rowAt Q (w .at))) (between R t k)
-    nearest k g a =
-        let o = l .all k (g .0) (g .1) a in
-        closer R s t (rowAt Q (w .at)) k h
-        (subst (λ (i : ℕ). Leq (key (gap (R .xs) (R .ys) t (rowAt Q (w .at))) (getD (R .ns) (rowAt Q (w .at)) 0)) (key (gap (R .xs) (R .ys) t i) (getD (R .ns) i 0))) (o .2)
-        (keyed (spotOf Q k) (o .0) (o .1)))
+    pub scanned-all : end ≤ start first n → Scanned xs ys kn kx ky E t h first end masterBlocks s r
+    scanned-all done = record { less = v .less; least = λ i l o. v .least i (omega arith) o; came = v .came }

@@ -1,15 +1,12 @@
--- A used-up row leaves its list; an empty list. Assumes nothing.
+-- A used-up row leaves its list. Assumes nothing.
 use Prim.Native.Nat.{ℕ, _-_, _<_, _≤_}
-use mathlib.Core.Path.{_≡_, refl, sym, _∙_, ap}
-use mathlib.Core.List.{List, []}
-use native.Mathlib.Decide.{ℕ-discrete, decLe}
+use mathlib.Core.Path.{_≡_, sym, _∙_, ap}
+use mathlib.Core.List.{List}
+use native.Mathlib.Decide.{ℕ-discrete}
 use native.Mathlib.Omega.{arith}
 use lib.IntN.{ℤ}
 use lib.ListN.{length, getD}
-use Rattle.matching.specs.Definitions.Nodes.{Master, masterA, masterB}
-use Rattle.join.specs.Rows.{Rows, from, to, On, rest, Sound}
 use Rattle.join.specs.Live.{Lists, Sized, rowAt, spotOf, Elsewhere, entered, Holds, Live, Refreshed, stays, leaves}
-use Rattle.join.proofs.Laws.Rest.{rest-none}
 use Rattle.join.proofs.Laws.Live.{same-refl, entered-size, row-here, spot-here, row-other, spot-other, holds-here, holds-other, apart}
 
 module _ (ns : List ℕ) (xs ys : List ℤ) where
@@ -119,16 +116,3 @@ module _ (ns : List ℕ) (xs ys : List ℤ) where
     refreshed O r (stays d f g) = rw (f, g) (stay d, (λ k h. same-refl Q k), z)
     refreshed O r (leaves d f g) =
         rw (f, g) (leave d, (λ k h. apart ns xs ys Q n place last z in-w in-r k (λ q. h (omega (arith, listed)) (omega (arith, listed, l .high))) (λ q. h (omega (arith, tail)) (omega (arith, tail)))), entered-size ns xs ys Q n place last z in-w in-r)
-
--- Where a list is empty, its master has nothing left, and no pair can be taken.
-module _ (R : Rows) (left : List ℕ) (Q : Lists) where
-  spent : (s : Master) (e : ℕ) → Live (R .ns) (R .xs) (R .ys) left Q (from R s) (to R s) e → e ≡ from R s → (q : ℕ) → On R s q → getD left q 0 ≡ 0
-  spent s e l z q h = go (decLe 1 (getD left q 0))
-    where
-      go : Dec (1 ≤ getD left q 0) → getD left q 0 ≡ 0
-      go (yes a) = let p = l .all q (h .0) (h .1) a in absurd (omega (arith, p))
-      go (no a) = omega arith
-
-  pub none-left : Sound R left → (s : Master) (e : ℕ) → Live (R .ns) (R .xs) (R .ys) left Q (from R s) (to R s) e → e ≡ from R s → rest R left ≡ []
-  none-left v masterA e l z = rest-none R left v (λ i j hi hj. omega (arith, spent masterA e l z i hi))
-  none-left v masterB e l z = rest-none R left v (λ i j hi hj. omega (arith, spent masterB e l z j hj))

@@ -1,51 +1,42 @@
--- `chain::decide` meets its contract: an empty list leaves no pair; else what the top's nearest row decides, by the laws of the chain.
+-- `chain::decide` meets its contract: with no chain, how one begins; else what the top's nearest row decides, by the laws of the chain.
 -- Assumes nothing.
+use mathlib.Core.Path.{sym, _∙_}
 use native.Mathlib.Omega.{arith}
 use borrow.Author.Needs.{needs}
-use Rattle.matching.specs.Definitions.Nodes.{masterA, masterB}
-use Rattle.join.proofs.Laws.Chain.{room, may-push, may-take}
-use Rattle.join.proofs.Laws.Decide.{stop, first-push, listing, top-placed, place-low, top-chosen}
+use Rattle.join.proofs.Laws.Chain.{may-push, may-take}
+use Rattle.join.proofs.Laws.Decide.{may-look, may-begin, begun, top-placed, chain-room, seeding, top-chosen, top-stop, place-low}
 use Rattle.join.proofs.chain.decide.Statement.{statement}
 use Rattle.join.proofs.chain.decide.Tie as tie
 
+begin-requires : tie.Need-begin-requires
+begin-requires c κs = may-begin _ _ _ _ _ _ _ (c .before .before .before .before .before .before .before .before .before .pre)
+
 returns : tie.Need-returns
-returns c = stop _ _ _ _ _ (c .before .before .before .before .before .before .before .pre) masterA (c .if1 .taken)
+returns c = begun _ _ _ _ _ _ _ (c .before .before .before .before .before .before .before .before .before .before .pre) (c .before .if1 .taken) (c .begin .result) (c .begin .ensures)
 
-returns-2 : tie.Need-returns-2
-returns-2 c = stop _ _ _ _ _ (c .before .before .before .before .before .before .before .before .pre) masterB (c .if2 .taken)
+sub-wide : tie.Need-sub-wide
+sub-wide c = search needs
 
-shared-slice-read-t22 : tie.Need-shared-slice-read-t22
-shared-slice-read-t22 c = let p = c .before .before .before .before .before .before .before .before .before .before .pre in omega (arith, c .before .before .before .if1 .left, p .sized .in-live, p .lists masterA .high, p .sound .parts)
+wide-requires : tie.Need-wide-requires
+wide-requires c κs = omega (arith, chain-room _ _ _ _ _ _ _ (c .before .before .before .before .before .before .before .before .before .pre) (c .if1 .left))
 
-returns-3 : tie.Need-returns-3
-returns-3 c = first-push _ _ _ _ _ (c .before .before .before .before .before .before .before .before .before .before .pre) (c .before .before .before .if1 .left) (c .before .if3 .taken)
-
-sub-t : tie.Need-sub-t
-sub-t c = search needs
-
-mul-t : tie.Need-mul-t
-mul-t c = record { fits = omega (arith, room _ _ (c .before .before .before .before .before .before .before .before .before .pre .sound) _ _ (c .before .before .before .before .before .before .before .before .before .pre .path), c .before .before .before .before .before .before .before .before .before .pre .path .room) }
-
-shared-slice-read-t : tie.Need-shared-slice-read-t
-shared-slice-read-t c = omega (arith, room _ _ (c .before .before .before .before .before .before .before .before .before .before .pre .sound) _ _ (c .before .before .before .before .before .before .before .before .before .before .pre .path))
+below-requires : tie.Need-below-requires
+below-requires c κs = (rw (c .wide .ensures) (top-placed _ _ _ _ _ _ _ (c .before .before .before .before .before .before .before .before .before .before .pre) (c .before .if1 .left)), seeding _ _ _ _ _ _ _ (c .before .before .before .before .before .before .before .before .before .before .pre) (c .before .if1 .left))
 
 partner-requires : tie.Need-partner-requires
-partner-requires c κs = let p = c .before .before .before .before .before .before .before .before .before .before .pre in (top-placed _ _ _ _ _ p (c .before .if3 .left), listing _ _ _ _ _ p masterA (c .before .before .before .if1 .left), listing _ _ _ _ _ p masterB (c .before .before .if2 .left))
+partner-requires c κs = let p = c .before .before .before .before .before .before .before .before .before .before .before .pre in ((rw (c .before .wide .ensures) (top-placed _ _ _ _ _ _ _ p (c .before .before .if1 .left)), p .kept .ends, p .fenced .wide), may-look _ _ _ _ _ _ _ p)
 
-mul-at : tie.Need-mul-at
-mul-at c = let p = c .before .before .before .before .before .before .before .before .before .before .before .pre in record { fits = omega (arith, place-low _ _ _ _ _ p (c .before .before .if3 .left) _ (c .partner .ensures), p .sound .most) }
+returns-2 : tie.Need-returns-2
+returns-2 c = top-stop _ _ _ _ _ _ _ (c .before .before .before .before .before .before .before .before .before .before .before .before .before .before .pre) (c .before .before .before .before .before .if1 .left) _ _ (rw (c .before .before .before .before .wide .ensures) at (c .before .before .before .below .ensures)) (rw (c .before .before .before .before .wide .ensures) at (c .before .before .partner .ensures)) (c .if2 .taken)
 
-shared-slice-read-at : tie.Need-shared-slice-read-at
-shared-slice-read-at c = let p = c .before .before .before .before .before .before .before .before .before .before .before .before .pre in omega (arith, place-low _ _ _ _ _ p (c .before .before .before .if3 .left) _ (c .before .partner .ensures), p .sized .in-live)
+wide-requires-2 : tie.Need-wide-requires-2
+wide-requires-2 c κs = omega (arith, place-low _ _ _ _ _ _ _ (c .before .before .before .before .before .before .before .before .before .before .before .before .before .before .pre) (c .before .before .before .before .before .if1 .left) _ _ (rw (c .before .before .before .before .wide .ensures) at (c .before .before .before .below .ensures)) (rw (c .before .before .before .before .wide .ensures) at (c .before .before .partner .ensures)) (c .if2 .left), c .before .before .before .before .before .before .before .before .before .before .before .before .before .before .pre .kept .sized .in-live)
 
-sub-if5 : tie.Need-sub-if5
-sub-if5 c = search needs
+sub-wide-2 : tie.Need-sub-wide-2
+sub-wide-2 c = search needs
 
-mul-if5 : tie.Need-mul-if5
-mul-if5 c = record { fits = omega (arith, room _ _ (c .before .before .before .before .before .before .before .before .before .before .before .before .before .pre .sound) _ _ (c .before .before .before .before .before .before .before .before .before .before .before .before .before .pre .path), c .before .before .before .before .before .before .before .before .before .before .before .before .before .pre .path .room) }
-
-shared-slice-read-if5 : tie.Need-shared-slice-read-if5
-shared-slice-read-if5 c = omega (arith, room _ _ (c .before .before .before .before .before .before .before .before .before .before .before .before .before .before .pre .sound) _ _ (c .before .before .before .before .before .before .before .before .before .before .before .before .before .before .pre .path))
+wide-requires-3 : tie.Need-wide-requires-3
+wide-requires-3 c κs = omega (arith, chain-room _ _ _ _ _ _ _ (c .before .before .before .before .before .before .before .before .before .before .before .before .before .before .before .before .pre) (c .before .before .before .before .before .before .before .if1 .left))
 
 distance-requires : tie.Need-distance-requires
 distance-requires c κs = search needs
@@ -53,34 +44,31 @@ distance-requires c κs = search needs
 sided-requires : tie.Need-sided-requires
 sided-requires c κs = search needs
 
+returns-3 : tie.Need-returns-3
+returns-3 c = let p = c .before .before .before .before .before .before .before .before .before .before .before .before .before .before .before .before .before .before .before .before .pre in rw (c .sided .ensures, c .before .distance .ensures, c .before .before .before .before .before .before .before .before .before .before .wide .ensures, c .before .before .before .before .before .wide2 .ensures) (may-take _ _ (p .sound) _ _ (p .path) (omega arith) _ _ (top-chosen _ _ _ _ _ _ _ (c .before .before .before .before .before .before .before .before .before .before .before .before .before .before .before .before .before .before .before .before .pre) (c .before .before .before .before .before .before .before .before .before .before .before .if1 .left) _ _ (rw (c .before .before .before .before .before .before .before .before .before .before .wide .ensures) at (c .before .before .before .before .before .before .before .before .before .below .ensures)) (rw (c .before .before .before .before .before .before .before .before .before .before .wide .ensures) at (c .before .before .before .before .before .before .before .before .partner .ensures)) (c .before .before .before .before .before .before .if2 .left)) (omega (arith, c .before .before .before .before .if3 .taken)) (sym (c .before .before .before .wide3 .ensures) ∙ c .before .before .if4 .taken ∙ c .before .before .before .before .before .wide2 .ensures))
+
 returns-4 : tie.Need-returns-4
-returns-4 c = let p = c .before .before .before .before .before .before .before .before .before .before .before .before .before .before .before .before .before .pre in rw (c .sided .ensures, c .before .distance .ensures) (may-take _ _ (p .sound) _ _ (p .path) (omega arith) _ _ (top-chosen _ _ _ _ _ p (c .before .before .before .before .before .before .before .before .if3 .left) _ (c .before .before .before .before .before .before .partner .ensures)) (omega arith) (c .before .before .if5 .taken))
+returns-4 c = let p = c .before .before .before .before .before .before .before .before .before .before .before .before .before .before .before .before .before .before .pre in rw (c .before .before .before .wide2 .ensures) (may-push _ _ (p .sound) _ _ (p .path) (omega arith) _ _ (top-chosen _ _ _ _ _ _ _ (c .before .before .before .before .before .before .before .before .before .before .before .before .before .before .before .before .before .before .pre) (c .before .before .before .before .before .before .before .before .before .if1 .left) _ _ (rw (c .before .before .before .before .before .before .before .before .wide .ensures) at (c .before .before .before .before .before .before .before .below .ensures)) (rw (c .before .before .before .before .before .before .before .before .wide .ensures) at (c .before .before .before .before .before .before .partner .ensures)) (c .before .before .before .before .if2 .left)) (λ l e. c .if4 .left (c .before .wide3 .ensures ∙ e ∙ sym (c .before .before .before .wide2 .ensures))))
 
 returns-5 : tie.Need-returns-5
-returns-5 c = let p = c .before .before .before .before .before .before .before .before .before .before .before .before .before .before .before .pre in may-push _ _ (p .sound) _ _ (p .path) (omega arith) _ _ (top-chosen _ _ _ _ _ p (c .before .before .before .before .before .before .if3 .left) _ (c .before .before .before .before .partner .ensures)) (λ l. c .if5 .left)
-
-returns-6 : tie.Need-returns-6
-returns-6 c = let p = c .before .before .before .before .before .before .before .before .before .before .before .before .before .pre in may-push _ _ (p .sound) _ _ (p .path) (omega arith) _ _ (top-chosen _ _ _ _ _ p (c .before .before .before .before .if3 .left) _ (c .before .before .partner .ensures)) (λ l. absurd (omega arith))
+returns-5 c = let p = c .before .before .before .before .before .before .before .before .before .before .before .before .before .before .before .before .pre in rw (c .before .wide2 .ensures) (may-push _ _ (p .sound) _ _ (p .path) (omega arith) _ _ (top-chosen _ _ _ _ _ _ _ (c .before .before .before .before .before .before .before .before .before .before .before .before .before .before .before .before .pre) (c .before .before .before .before .before .before .before .if1 .left) _ _ (rw (c .before .before .before .before .before .before .wide .ensures) at (c .before .before .before .before .before .below .ensures)) (rw (c .before .before .before .before .before .before .wide .ensures) at (c .before .before .before .before .partner .ensures)) (c .before .before .if2 .left)) (λ l. absurd (omega (arith, c .if3 .left))))
 
 pub decide-spec : {M : Type 1} → statement M
 decide-spec =
     tie.close
     (tie.spec
+    begin-requires
     returns
-    returns-2
-    shared-slice-read-t22
-    returns-3
-    sub-t
-    mul-t
-    shared-slice-read-t
+    sub-wide
+    wide-requires
+    below-requires
     partner-requires
-    mul-at
-    shared-slice-read-at
-    sub-if5
-    mul-if5
-    shared-slice-read-if5
+    returns-2
+    wide-requires-2
+    sub-wide-2
+    wide-requires-3
     distance-requires
     sided-requires
+    returns-3
     returns-4
-    returns-5
-    returns-6)
+    returns-5)

@@ -17,7 +17,7 @@ loop-holds : tie.Need-loop-holds Inv-loop μ-loop
 loop-holds c = gathering-start _ _ _ _ _ _ _ (c .before .before .before .before .before .pre .3) (c .before .before .before .before .before .pre .1)
 
 list-requires : tie.Need-list-requires Inv-loop μ-loop
-list-requires c κs = let p = c .before .before .before .before .before .before .before .before .before .before .before .before .pre in let i = c .before .before .before .before .before .before .loop .inv in (p .0, i .sized, p .2, omega (arith, p .4), omega (arith, p .4, i .live .high))
+list-requires c κs = let p = c .before .before .before .before .before .before .before .before .before .before .before .before .pre in let i = c .before .before .before .before .before .before .loop .inv in (p .0, i .sized, p .2, omega (arith, p .4), omega (arith, p .4, i .live .high), p .5)
 
 add-k : tie.Need-add-k Inv-loop μ-loop
 add-k c = record { fits = omega (arith, c .before .before .before .before .before .before .before .before .before .before .before .before .before .before .before .before .before .before .before .before .before .pre .4, c .before .before .before .before .before .before .before .before .before .before .before .before .before .before .before .before .before .before .before .before .before .good) }

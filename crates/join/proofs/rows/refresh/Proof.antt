@@ -15,23 +15,17 @@ shared-slice-read-if1 c = search needs
 returns : tie.Need-returns
 returns c = stays (c .if1 .taken) refl refl
 
-sub-r : tie.Need-sub-r
-sub-r c = search needs
+sub-wide : tie.Need-sub-wide
+sub-wide c = search needs
 
-mul-r : tie.Need-mul-r
-mul-r c = search needs
+wide-requires : tie.Need-wide-requires
+wide-requires c κs = search needs
 
-slice-read-r : tie.Need-slice-read-r
-slice-read-r c = search needs
-
-mul-w : tie.Need-mul-w
-mul-w c = search needs
-
-slice-read-w : tie.Need-slice-read-w
-slice-read-w c = search needs
+wide-requires-2 : tie.Need-wide-requires-2
+wide-requires-2 c κs = search needs
 
 enter-requires : tie.Need-enter-requires
-enter-requires c κs = search needs
+enter-requires c κs = let p = c .before .before .before .before .before .before .before .before .before .before .before .before .before .before .before .before .pre in (p .0 .0, p .0 .1, omega (arith, c .before .before .before .before .before .before .before .wide .ensures, p .1 .4), omega (arith, c .before .before .before .before .before .wide2 .ensures, p .1 .1), p .1 .5)
 
 sub-result : tie.Need-sub-result
 sub-result c = search needs
@@ -52,7 +46,7 @@ same-length-5 : tie.Need-same-length-5
 same-length-5 c = search needs
 
 returns-2 : tie.Need-returns-2
-returns-2 c = leaves (omega (arith, c .before .before .before .before .before .before .before .before .before .before .before .before .before .before .before .before .if1 .left)) (c .before .before .before .before .before .before .before .before .enter .ensures) refl
+returns-2 c = leaves (omega (arith, c .before .before .before .before .before .before .before .before .before .before .before .before .before .before .before .before .before .before .if1 .left)) (rw (c .before .before .before .before .before .before .before .before .before .before .before .before .before .before .before .before .wide .ensures, c .before .before .before .before .before .before .before .before .before .before .before .before .before .before .wide2 .ensures) at (c .before .before .before .before .before .before .before .before .enter .ensures)) refl
 
 pub refresh-spec : {M : Type 1} → statement M
 refresh-spec =
@@ -61,11 +55,9 @@ refresh-spec =
     mul-if1
     shared-slice-read-if1
     returns
-    sub-r
-    mul-r
-    slice-read-r
-    mul-w
-    slice-read-w
+    sub-wide
+    wide-requires
+    wide-requires-2
     enter-requires
     sub-result
     same-length
