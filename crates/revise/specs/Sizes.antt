@@ -1,0 +1,6 @@
+-- The sizes that a revision works with, beside those of `join`. No other file of this crate has these numbers.
+use Prim.Native.Nat.{ℕ}
+
+-- Rows that may be richer at one time.
+abbrev pub richRows : ℕ
+richRows = 64

@@ -1,0 +1,85 @@
+// Both masters' rows in one set of columns, A's first; and packed links taken apart.
+use crate::pairs::first;
+use crate::pairs::second;
+ghost use mathlib.Core.Path.{_≡_};
+ghost use Prim.Native.Nat.{_+_, _<_, _≤_};
+ghost use lib.ListN.{length};
+ghost use Rattle.join.specs.Contract.{Fit};
+ghost use Rattle.join.specs.Sizes.{tableRows, linkRows};
+ghost use Rattle.revise.specs.Rows.{Full, Laid};
+
+// Copies a master's columns into the rows from `at` on.
+pub fn load(
+    an: &[u32],
+    ax: &[i16],
+    ay: &[i16],
+    ac: &[u32],
+    at: usize,
+    ns: &mut [u32],
+    xs: &mut [i16],
+    ys: &mut [i16],
+    left: &mut [u32],
+)
+    requires { ⌜ Fit (now an) (now ax) (now ay) (now ac) × (at + length (now an) ≤ tableRows) ⌝ }
+    requires { ⌜ Full (now ns) (now xs) (now ys) (now left) × Laid (now xs) (now ys) at ⌝ }
+    ensures { λ _. ⌜ Laid (now (xs .exit)) (now (ys .exit)) (at + length (now (an .entry))) ⌝ }
+{
+    let mut k = 0;
+    while k < an.len() {
+        ns[at + k] = an[k];
+        xs[at + k] = ax[k];
+        ys[at + k] = ay[k];
+        left[at + k] = ac[k];
+        k += 1;
+    }
+}
+
+// Link k taken apart: the numbers of its nodes, their places in their masters, its distance.
+fn unpack(
+    k: usize,
+    split: usize,
+    ns: &[u32],
+    news: &[u64],
+    ka: &mut [u32],
+    kb: &mut [u32],
+    kd: &mut [u32],
+    ja: &mut [u16],
+    jb: &mut [u16],
+)
+    requires { ⌜ (k < length (now news)) × (length (now news) ≡ linkRows) × (0 < length (now ns)) × (length (now ns) ≤ tableRows) ⌝ }
+    requires { ⌜ (length (now ka) ≡ linkRows) × (length (now kb) ≡ linkRows) × (length (now kd) ≡ linkRows) × (length (now ja) ≡ linkRows) × (length (now jb) ≡ linkRows) ⌝ }
+{
+    let size = ns.len();
+    let p = news[k];
+    let i = first(p, size);
+    let j = second(p, size);
+    ka[k] = ns[i];
+    kb[k] = ns[j];
+    kd[k] = join::nearest::distance(p);
+    ja[k] = i as u16;
+    if split <= j {
+        jb[k] = (j - split) as u16;
+    }
+}
+
+// The first n links taken apart.
+pub fn spell(
+    n: usize,
+    split: usize,
+    ns: &[u32],
+    news: &[u64],
+    ka: &mut [u32],
+    kb: &mut [u32],
+    kd: &mut [u32],
+    ja: &mut [u16],
+    jb: &mut [u16],
+)
+    requires { ⌜ (n ≤ linkRows) × (length (now news) ≡ linkRows) × (0 < length (now ns)) × (length (now ns) ≤ tableRows) ⌝ }
+    requires { ⌜ (length (now ka) ≡ linkRows) × (length (now kb) ≡ linkRows) × (length (now kd) ≡ linkRows) × (length (now ja) ≡ linkRows) × (length (now jb) ≡ linkRows) ⌝ }
+{
+    let mut k = 0;
+    while k < n {
+        unpack(k, split, ns, news, ka, kb, kd, ja, jb);
+        k += 1;
+    }
+}
