@@ -6,7 +6,31 @@ ghost use Prim.Native.Nat.{_+_, _<_, _≤_};
 ghost use lib.ListN.{length};
 ghost use Rattle.join.specs.Contract.{Fit};
 ghost use Rattle.join.specs.Sizes.{tableRows, linkRows};
-ghost use Rattle.revise.specs.Rows.{Full, Laid};
+ghost use Rattle.join.specs.Rows.{Full};
+ghost use Rattle.revise.specs.Rows.{Copied, Laid};
+
+// Copies a column of numbers into the rows from `at` on.
+fn numbers(from: &[u32], at: usize, to: &mut [u32])
+    requires { ⌜ at + length (now from) ≤ length (now to) ⌝ }
+{
+    let mut k = 0;
+    while k < from.len() {
+        to[at + k] = from[k];
+        k += 1;
+    }
+}
+
+// Copies a column of positions into the rows from `at` on.
+fn positions(from: &[i16], at: usize, to: &mut [i16])
+    requires { ⌜ at + length (now from) ≤ length (now to) ⌝ }
+    ensures { λ _. ⌜ Copied (now (from .entry)) at (length (now (from .entry))) (now (to .entry)) (now (to .exit)) ⌝ }
+{
+    let mut k = 0;
+    while k < from.len() {
+        to[at + k] = from[k];
+        k += 1;
+    }
+}
 
 // Copies a master's columns into the rows from `at` on.
 pub fn load(
@@ -24,14 +48,10 @@ pub fn load(
     requires { ⌜ Full (now ns) (now xs) (now ys) (now left) × Laid (now xs) (now ys) at ⌝ }
     ensures { λ _. ⌜ Laid (now (xs .exit)) (now (ys .exit)) (at + length (now (an .entry))) ⌝ }
 {
-    let mut k = 0;
-    while k < an.len() {
-        ns[at + k] = an[k];
-        xs[at + k] = ax[k];
-        ys[at + k] = ay[k];
-        left[at + k] = ac[k];
-        k += 1;
-    }
+    numbers(an, at, ns);
+    positions(ax, at, xs);
+    positions(ay, at, ys);
+    numbers(ac, at, left);
 }
 
 // Link k taken apart: the numbers of its nodes, their places in their masters, its distance.

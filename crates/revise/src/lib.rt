@@ -1,5 +1,6 @@
 // The links after an edit, made from those before it. Nothing is promised of them: who uses them checks them.
 mod columns;
+mod links;
 mod nearest;
 mod pairs;
 mod rich;
@@ -28,7 +29,7 @@ fn begin(
     left: &[u32],
     rich: &mut [u64],
 ) -> usize
-    requires { ⌜ Board (now ns) (now xs) (now ys) (now left) split × (length (now was) ≡ length (now ns)) × (length (now rich) ≡ richRows) × (end ≤ length (now ns)) ⌝ }
+    requires { ⌜ Board (now ns) (now xs) (now ys) split × (length (now was) ≡ length (now ns)) × (length (now left) ≡ length (now ns)) × (length (now rich) ≡ richRows) × (end ≤ length (now ns)) ⌝ }
     ensures { λ n. ⌜ n ≤ richRows ⌝ }
 {
     let mut k = first;
@@ -54,7 +55,7 @@ fn entrance(
     left: &[u32],
     rich: &mut [u64],
 ) -> usize
-    requires { ⌜ Board (now ns) (now xs) (now ys) (now left) split × (length (now was) ≡ length (now ns)) × (length (now rich) ≡ richRows) ⌝ }
+    requires { ⌜ Board (now ns) (now xs) (now ys) split × (length (now was) ≡ length (now ns)) × (length (now left) ≡ length (now ns)) × (length (now rich) ≡ richRows) ⌝ }
     ensures { λ n. ⌜ n ≤ richRows ⌝ }
 {
     if second {
@@ -86,7 +87,7 @@ fn follow(
     ja: &mut [u16],
     jb: &mut [u16],
 ) -> usize
-    requires { ⌜ Board (now ns) (now xs) (now ys) (now left) split × (length (now was) ≡ length (now ns)) × (0 < length (now ns)) × Level (now la) (now lb) (now ld) (now lm) (now ia) (now ib) ⌝ }
+    requires { ⌜ Board (now ns) (now xs) (now ys) split × (length (now was) ≡ length (now ns)) × (length (now left) ≡ length (now ns)) × Level (now la) (now lb) (now ld) (now lm) (now ia) (now ib) ⌝ }
     requires { ⌜ (length (now ka) ≡ linkRows) × (length (now kb) ≡ linkRows) × (length (now kd) ≡ linkRows) × (length (now km) ≡ linkRows) × (length (now ja) ≡ linkRows) × (length (now jb) ≡ linkRows) ⌝ }
     ensures { λ r. ⌜ r ≤ linkRows ⌝ }
 {

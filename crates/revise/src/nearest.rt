@@ -58,7 +58,7 @@ fn search(
 
 // The nearest to row t of the other master's rows: A's are those before row split.
 pub fn partner(t: usize, split: usize, ns: &[u32], xs: &[i16], ys: &[i16], left: &[u32]) -> Near
-    requires { ⌜ Board (now ns) (now xs) (now ys) (now left) split × (t < length (now ns)) ⌝ }
+    requires { ⌜ Board (now ns) (now xs) (now ys) split × (length (now left) ≡ length (now ns)) × (t < length (now ns)) ⌝ }
     ensures { λ r. ⌜ r .at < length (now (ns .entry)) ⌝ }
 {
     if t < split {

@@ -40,7 +40,7 @@ fn enter(
     left: &[u32],
     rich: &mut [u64],
 ) -> usize
-    requires { ⌜ Board (now ns) (now xs) (now ys) (now left) split × (r < length (now ns)) ⌝ }
+    requires { ⌜ Board (now ns) (now xs) (now ys) split × (length (now left) ≡ length (now ns)) × (r < length (now ns)) ⌝ }
     requires { ⌜ (length (now rich) ≡ richRows) × (n ≤ richRows) ⌝ }
     ensures { λ m. ⌜ m ≤ richRows ⌝ }
 {
@@ -77,7 +77,7 @@ pub fn review(
     left: &[u32],
     rich: &mut [u64],
 ) -> usize
-    requires { ⌜ Board (now ns) (now xs) (now ys) (now left) split × (length (now was) ≡ length (now ns)) × (r < length (now ns)) ⌝ }
+    requires { ⌜ Board (now ns) (now xs) (now ys) split × (length (now was) ≡ length (now ns)) × (length (now left) ≡ length (now ns)) × (r < length (now ns)) ⌝ }
     requires { ⌜ (length (now rich) ≡ richRows) × (n ≤ richRows) ⌝ }
     ensures { λ m. ⌜ m ≤ richRows ⌝ }
 {
@@ -105,7 +105,7 @@ pub fn renew(
     left: &[u32],
     rich: &mut [u64],
 ) -> usize
-    requires { ⌜ Board (now ns) (now xs) (now ys) (now left) split × (0 < length (now ns)) ⌝ }
+    requires { ⌜ Board (now ns) (now xs) (now ys) split × (length (now left) ≡ length (now ns)) ⌝ }
     requires { ⌜ (length (now rich) ≡ richRows) × (i < n) × (n ≤ richRows) ⌝ }
     ensures { λ m. ⌜ m ≤ richRows ⌝ }
 {
@@ -127,10 +127,10 @@ fn sooner(i: usize, k: usize, ns: &[u32], rich: &[u64]) -> bool
     precedes(rich[i], distance(q), ns[a], ns[b], ns)
 }
 
-// The place of the earliest pair among the n richer rows; 0 where there is none.
+// The place of the earliest pair among the n richer rows.
 pub fn earliest(n: usize, ns: &[u32], rich: &[u64]) -> usize
-    requires { ⌜ (0 < length (now ns)) × (n ≤ length (now rich)) ⌝ }
-    ensures { λ r. ⌜ (0 < n → r < n) ⌝ }
+    requires { ⌜ (0 < length (now ns)) × (0 < n) × (n ≤ length (now rich)) ⌝ }
+    ensures { λ r. ⌜ r < n ⌝ }
 {
     let mut at = 0;
     let mut i = 1;

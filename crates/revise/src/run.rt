@@ -1,5 +1,8 @@
 // A run along the links before the edit: what each row has left is kept as it was there (`was`) and as it is now (`left`).
 // The next link is the earlier of the next link there and of the pairs that richer rows can take.
+use crate::links::link;
+use crate::links::release;
+use crate::links::spend;
 use crate::pairs;
 use crate::rich;
 use crate::sizes;
@@ -8,8 +11,7 @@ ghost use Prim.Native.Nat.{_<_, _≤_};
 ghost use lib.ListN.{length};
 ghost use Rattle.join.specs.Sizes.{linkRows, tableRows};
 ghost use Rattle.verify.specs.Rows.{Level};
-ghost use Rattle.revise.specs.Sizes.{richRows};
-ghost use Rattle.revise.specs.Rows.{Board, Fair};
+ghost use Rattle.revise.specs.Rows.{Board, Desk, Fair};
 
 // Where the run is: the next link there, how many rows are richer, how many links are written, and whether it is done.
 pub struct Run {
@@ -17,97 +19,6 @@ pub struct Run {
     pub rich: usize,
     pub links: usize,
     pub done: bool,
-}
-
-// Takes m of what a row has, as far as it goes.
-fn spend(r: usize, m: u32, left: &mut [u32])
-    requires { ⌜ r < length (now left) ⌝ }
-{
-    let x = left[r];
-    if x < m {
-        left[r] = 0;
-        return;
-    }
-    left[r] = x - m;
-}
-
-// Takes of rows i and j the lesser of what they have left, and gives it.
-fn take(i: usize, j: usize, left: &mut [u32]) -> u32
-    requires { ⌜ (i < length (now left)) × (j < length (now left)) ⌝ }
-{
-    let x = left[i];
-    let y = left[j];
-    let m = if x < y { x } else { y };
-    spend(i, m, left);
-    spend(j, m, left);
-    m
-}
-
-// Writes link n of A's row i and B's row j, if it has an amount and there is room; gives how many are written.
-fn write(n: usize, i: usize, j: usize, d: u32, m: u32, news: &mut [u64], km: &mut [u32]) -> usize
-    requires { ⌜ (length (now news) ≡ linkRows) × (length (now km) ≡ linkRows) × (n ≤ linkRows) × (i < tableRows) × (j < tableRows) ⌝ }
-    ensures { λ r. ⌜ r ≤ linkRows ⌝ }
-{
-    if m == 0 {
-        return n;
-    }
-    if n == sizes::LINKS {
-        return n;
-    }
-    news[n] = pairs::bind(d, i, j);
-    km[n] = m;
-    n + 1
-}
-
-// Takes the pair of A's row i and B's row j as the next link.
-fn link(
-    s: Run,
-    i: usize,
-    j: usize,
-    d: u32,
-    split: usize,
-    ns: &[u32],
-    xs: &[i16],
-    ys: &[i16],
-    was: &mut [u32],
-    left: &mut [u32],
-    rich: &mut [u64],
-    news: &mut [u64],
-    km: &mut [u32],
-) -> Run
-    requires { ⌜ Board (now ns) (now xs) (now ys) (now left) split × (length (now was) ≡ length (now ns)) × (length (now rich) ≡ richRows) ⌝ }
-    requires { ⌜ (length (now news) ≡ linkRows) × (length (now km) ≡ linkRows) × (i < length (now ns)) × (j < length (now ns)) × (s .rich ≤ richRows) × (s .links ≤ linkRows) ⌝ }
-    ensures { λ r. ⌜ (r .row ≡ s .row) × (r .rich ≤ richRows) × (r .links ≤ linkRows) ⌝ }
-{
-    let m = take(i, j, left);
-    let mut r = s;
-    r.links = write(s.links, i, j, d, m, news, km);
-    let n = rich::review(i, s.rich, split, ns, xs, ys, was, left, rich);
-    r.rich = rich::review(j, n, split, ns, xs, ys, was, left, rich);
-    r
-}
-
-// The next link there is the edited node's, and gone: its other row i has its amount m back.
-fn release(
-    s: Run,
-    i: usize,
-    m: u32,
-    split: usize,
-    ns: &[u32],
-    xs: &[i16],
-    ys: &[i16],
-    was: &mut [u32],
-    left: &mut [u32],
-    rich: &mut [u64],
-) -> Run
-    requires { ⌜ Board (now ns) (now xs) (now ys) (now left) split × (length (now was) ≡ length (now ns)) × (length (now rich) ≡ richRows) ⌝ }
-    requires { ⌜ (i < length (now ns)) × (s .rich ≤ richRows) ⌝ }
-    ensures { λ r. ⌜ (r .row ≡ s .row) × (r .rich ≤ richRows) × (r .links ≡ s .links) ⌝ }
-{
-    spend(i, m, was);
-    let mut r = s;
-    r.rich = rich::review(i, s.rich, split, ns, xs, ys, was, left, rich);
-    r
 }
 
 // A row by a hint, from row `from` on; nothing is promised of it but that there is such a row.
@@ -128,9 +39,28 @@ fn wide(x: u16) -> usize
     x as usize
 }
 
-// The next link there: taken with what its rows have left now, unless it is the edited node's (number z in A, or in B where `second`).
+// Whether link k there is the edited node's: number z in A, or in B where `second`.
+fn gone(k: usize, z: u32, second: bool, la: &[u32], lb: &[u32]) -> bool
+    requires { ⌜ (k < length (now la)) × (length (now lb) ≡ length (now la)) ⌝ }
+{
+    if second {
+        return lb[k] == z;
+    }
+    la[k] == z
+}
+
+// Of A's row i and B's row j the one that is not the edited node's.
+fn other(i: usize, j: usize, second: bool, size: usize) -> usize
+    requires { ⌜ (i < size) × (j < size) ⌝ }
+    ensures { λ r. ⌜ r < size ⌝ }
+{
+    if second { i } else { j }
+}
+
+// Link k there: taken with what its rows have left now, unless it is the edited node's.
 fn follow(
     s: Run,
+    k: usize,
     z: u32,
     second: bool,
     split: usize,
@@ -149,29 +79,21 @@ fn follow(
     news: &mut [u64],
     km: &mut [u32],
 ) -> Run
-    requires { ⌜ Board (now ns) (now xs) (now ys) (now left) split × (length (now was) ≡ length (now ns)) × (length (now rich) ≡ richRows) ⌝ }
-    requires { ⌜ (length (now news) ≡ linkRows) × (length (now km) ≡ linkRows) × Level (now la) (now lb) (now ld) (now lm) (now ia) (now ib) × (0 < length (now ns)) ⌝ }
-    requires { ⌜ (s .row < length (now la)) × (s .rich ≤ richRows) × (s .links ≤ linkRows) ⌝ }
-    ensures { λ r. ⌜ Fair r (length (now (la .entry))) ⌝ }
+    requires { ⌜ Board (now ns) (now xs) (now ys) split × Desk (now ns) (now was) (now left) (now rich) (now news) (now km) × Fair s ⌝ }
+    requires { ⌜ Level (now la) (now lb) (now ld) (now lm) (now ia) (now ib) × (k < length (now la)) ⌝ }
+    ensures { λ r. ⌜ Fair r ⌝ }
 {
-    let k = s.row;
-    let m = lm[k];
     let i = hint(ia, k, 0, ns.len());
     let j = hint(ib, k, split, ns.len());
-    let mut r = s;
-    r.row = k + 1;
-    if second {
-        if lb[k] == z {
-            return release(r, i, m, split, ns, xs, ys, was, left, rich);
-        }
-    } else {
-        if la[k] == z {
-            return release(r, j, m, split, ns, xs, ys, was, left, rich);
-        }
+    let d = ld[k];
+    let m = lm[k];
+    if gone(k, z, second, la, lb) {
+        let o = other(i, j, second, ns.len());
+        return release(s, o, m, split, ns, xs, ys, was, left, rich);
     }
     spend(i, m, was);
     spend(j, m, was);
-    link(r, i, j, ld[k], split, ns, xs, ys, was, left, rich, news, km)
+    link(s, i, j, d, split, ns, xs, ys, was, left, rich, news, km)
 }
 
 // The pair of place e: taken, or its first row looks for another where the second is used up.
@@ -182,15 +104,15 @@ fn grasp(
     ns: &[u32],
     xs: &[i16],
     ys: &[i16],
-    was: &mut [u32],
+    was: &[u32],
     left: &mut [u32],
     rich: &mut [u64],
     news: &mut [u64],
     km: &mut [u32],
 ) -> Run
-    requires { ⌜ Board (now ns) (now xs) (now ys) (now left) split × (length (now was) ≡ length (now ns)) × (length (now rich) ≡ richRows) ⌝ }
-    requires { ⌜ (length (now news) ≡ linkRows) × (length (now km) ≡ linkRows) × (0 < length (now ns)) × (e < s .rich) × (s .rich ≤ richRows) × (s .links ≤ linkRows) ⌝ }
-    ensures { λ r. ⌜ (r .row ≡ s .row) × (r .rich ≤ richRows) × (r .links ≤ linkRows) ⌝ }
+    requires { ⌜ Board (now ns) (now xs) (now ys) split × Desk (now ns) (now was) (now left) (now rich) (now news) (now km) × Fair s ⌝ }
+    requires { ⌜ e < s .rich ⌝ }
+    ensures { λ r. ⌜ Fair r ⌝ }
 {
     let size = ns.len();
     let p = rich[e];
@@ -201,23 +123,26 @@ fn grasp(
         t.rich = rich::renew(e, s.rich, split, ns, xs, ys, left, rich);
         return t;
     }
+    let d = join::nearest::distance(p);
     let i = pairs::light(r, w, size);
     let j = pairs::bold(r, w, size);
-    link(
-        s,
-        i,
-        j,
-        join::nearest::distance(p),
-        split,
-        ns,
-        xs,
-        ys,
-        was,
-        left,
-        rich,
-        news,
-        km,
-    )
+    link(s, i, j, d, split, ns, xs, ys, was, left, rich, news, km)
+}
+
+// The place of the n richer rows' earliest pair; n where there is none or link k there comes first.
+fn choose(k: usize, n: usize, ns: &[u32], rich: &[u64], la: &[u32], lb: &[u32], ld: &[u32]) -> usize
+    requires { ⌜ (0 < length (now ns)) × (n ≤ length (now rich)) × (length (now lb) ≡ length (now la)) × (length (now ld) ≡ length (now la)) ⌝ }
+{
+    if n == 0 {
+        return n;
+    }
+    let e = rich::earliest(n, ns, rich);
+    if k < la.len() {
+        if !pairs::precedes(rich[e], ld[k], la[k], lb[k], ns) {
+            return n;
+        }
+    }
+    e
 }
 
 // One turn: the earlier of the next link there and of the richer rows' pairs. With neither, the run is done.
@@ -241,20 +166,22 @@ fn turn(
     news: &mut [u64],
     km: &mut [u32],
 ) -> Run
-    requires { ⌜ Board (now ns) (now xs) (now ys) (now left) split × (length (now was) ≡ length (now ns)) × (length (now rich) ≡ richRows) ⌝ }
-    requires { ⌜ (length (now news) ≡ linkRows) × (length (now km) ≡ linkRows) × Level (now la) (now lb) (now ld) (now lm) (now ia) (now ib) × (0 < length (now ns)) × Fair s (length (now la)) ⌝ }
-    ensures { λ r. ⌜ Fair r (length (now (la .entry))) ⌝ }
+    requires { ⌜ Board (now ns) (now xs) (now ys) split × Desk (now ns) (now was) (now left) (now rich) (now news) (now km) × Fair s ⌝ }
+    requires { ⌜ Level (now la) (now lb) (now ld) (now lm) (now ia) (now ib) ⌝ }
+    ensures { λ r. ⌜ Fair r ⌝ }
 {
     let k = s.row;
     let n = s.rich;
-    if n == 0 {
-        if k == la.len() {
-            let mut r = s;
-            r.done = true;
-            return r;
-        }
+    let e = choose(k, n, ns, rich, la, lb, ld);
+    if e < n {
+        return grasp(s, e, split, ns, xs, ys, was, left, rich, news, km);
+    }
+    let mut r = s;
+    if k < la.len() {
+        r.row = k + 1;
         return follow(
-            s,
+            r,
+            k,
             z,
             second,
             split,
@@ -274,32 +201,8 @@ fn turn(
             km,
         );
     }
-    let e = rich::earliest(n, ns, rich);
-    if k < la.len() {
-        if !pairs::precedes(rich[e], ld[k], la[k], lb[k], ns) {
-            return follow(
-                s,
-                z,
-                second,
-                split,
-                ns,
-                xs,
-                ys,
-                was,
-                left,
-                rich,
-                la,
-                lb,
-                ld,
-                lm,
-                ia,
-                ib,
-                news,
-                km,
-            );
-        }
-    }
-    grasp(s, e, split, ns, xs, ys, was, left, rich, news, km)
+    r.done = true;
+    r
 }
 
 // Turns until the links there and the richer rows are done, or there have been too many; gives the number of links.
@@ -323,8 +226,8 @@ pub fn all(
     news: &mut [u64],
     km: &mut [u32],
 ) -> usize
-    requires { ⌜ Board (now ns) (now xs) (now ys) (now left) split × (length (now was) ≡ length (now ns)) × (length (now rich) ≡ richRows) ⌝ }
-    requires { ⌜ (length (now news) ≡ linkRows) × (length (now km) ≡ linkRows) × Level (now la) (now lb) (now ld) (now lm) (now ia) (now ib) × (0 < length (now ns)) × Fair s (length (now la)) ⌝ }
+    requires { ⌜ Board (now ns) (now xs) (now ys) split × Desk (now ns) (now was) (now left) (now rich) (now news) (now km) × Fair s ⌝ }
+    requires { ⌜ Level (now la) (now lb) (now ld) (now lm) (now ia) (now ib) ⌝ }
     ensures { λ r. ⌜ r ≤ linkRows ⌝ }
 {
     let mut s = s;

@@ -1,0 +1,105 @@
+use Rattle.revise.proofs.run.all.Statement.{statement}
+use Rattle.revise.proofs.run.all.Tie as tie
+use Rattle.revise.proofs.run.all.Reads as reads
+use Rattle.revise.proofs.run.all.Lts as lts
+use Rattle.revise.proofs.run.turn.Reads as turn-reads
+
+abbrev Inv-loop : tie.InvT-loop
+Inv-loop z second split ns xs ys was₀ left₀ rich₀ la lb ld lm ia ib news₀ km₀ s₀ k₀ was left rich news km s k =
+    ?
+
+abbrev μ-loop : tie.MeasureT-loop
+μ-loop z second split ns xs ys was₀ left₀ rich₀ la lb ld lm ia ib news₀ km₀ s₀ k₀ was left rich news km s k =
+    ?
+
+-- src/run.rt:235:5
+loop-holds : tie.Need-loop-holds Inv-loop μ-loop
+loop-holds c = ?
+
+-- src/run.rt:237:13
+same-length : tie.Need-same-length Inv-loop μ-loop
+same-length c = ?
+
+-- src/run.rt:237:13
+same-length-2 : tie.Need-same-length-2 Inv-loop μ-loop
+same-length-2 c = ?
+
+-- src/run.rt:237:13
+same-length-3 : tie.Need-same-length-3 Inv-loop μ-loop
+same-length-3 c = ?
+
+-- src/run.rt:237:13
+same-length-4 : tie.Need-same-length-4 Inv-loop μ-loop
+same-length-4 c = ?
+
+-- src/run.rt:237:13
+same-length-5 : tie.Need-same-length-5 Inv-loop μ-loop
+same-length-5 c = ?
+
+-- src/run.rt:237:13
+returns : tie.Need-returns Inv-loop μ-loop
+returns c = ?
+
+-- src/run.rt:239:9
+turn-requires : tie.Need-turn-requires Inv-loop μ-loop
+turn-requires c κs = ?
+
+-- src/run.rt:259:9
+add-k : tie.Need-add-k Inv-loop μ-loop
+add-k c = ?
+
+-- src/run.rt:235:5
+loop-less : tie.Need-loop-less Inv-loop μ-loop
+loop-less c = ?
+
+-- src/run.rt:235:5
+loop-again : tie.Need-loop-again Inv-loop μ-loop
+loop-again c = ?
+
+-- src/run.rt:209:1
+same-length-6 : tie.Need-same-length-6 Inv-loop μ-loop
+same-length-6 c = ?
+
+-- src/run.rt:209:1
+same-length-7 : tie.Need-same-length-7 Inv-loop μ-loop
+same-length-7 c = ?
+
+-- src/run.rt:209:1
+same-length-8 : tie.Need-same-length-8 Inv-loop μ-loop
+same-length-8 c = ?
+
+-- src/run.rt:209:1
+same-length-9 : tie.Need-same-length-9 Inv-loop μ-loop
+same-length-9 c = ?
+
+-- src/run.rt:209:1
+same-length-10 : tie.Need-same-length-10 Inv-loop μ-loop
+same-length-10 c = ?
+
+-- src/run.rt:209:1
+returns-2 : tie.Need-returns-2 Inv-loop μ-loop
+returns-2 c = ?
+
+pub all-spec : {M : Type 1} → statement M
+all-spec =
+    tie.close
+    (tie.spec
+    Inv-loop
+    μ-loop
+    loop-holds
+    same-length
+    same-length-2
+    same-length-3
+    same-length-4
+    same-length-5
+    returns
+    turn-requires
+    add-k
+    loop-less
+    loop-again
+    same-length-6
+    same-length-7
+    same-length-8
+    same-length-9
+    same-length-10
+    returns-2)
