@@ -4,3 +4,7 @@ use Prim.Native.Nat.{ℕ}
 -- Rows that may be richer at one time.
 abbrev pub richRows : ℕ
 richRows = 64
+
+-- Turns that a run may take.
+abbrev pub turns : ℕ
+turns = 4096

@@ -1,45 +1,36 @@
+-- `columns::load` meets its contract: both columns of positions are copied. Assumes nothing.
+use native.Mathlib.Omega.{arith}
+use Rattle.revise.proofs.Laws.Rows.{laid-on}
+use borrow.Author.Needs.{needs}
 use Rattle.revise.proofs.columns.load.Statement.{statement}
 use Rattle.revise.proofs.columns.load.Tie as tie
-use Rattle.revise.proofs.columns.load.Reads as reads
-use Rattle.revise.proofs.columns.load.Lts as lts
-use Rattle.revise.proofs.columns.numbers.Reads as numbers-reads
-use Rattle.revise.proofs.columns.positions.Reads as positions-reads
 
--- src/columns.rt:51:5
 numbers-requires : tie.Need-numbers-requires
-numbers-requires c κs = ?
+numbers-requires c κs = let p = c .before .before .before .before .before .pre in omega (arith, p .0 .1, p .1 .0)
 
--- src/columns.rt:52:5
 positions-requires : tie.Need-positions-requires
-positions-requires c κs = ?
+positions-requires c κs = let p = c .before .before .before .before .before .before .before .before .before .pre in omega (arith, p .0 .0 .columns .len-x, p .0 .1, p .1 .0)
 
--- src/columns.rt:53:5
 positions-requires-2 : tie.Need-positions-requires-2
-positions-requires-2 c κs = ?
+positions-requires-2 c κs = let p = c .before .before .before .before .before .before .before .before .before .before .before .before .pre in omega (arith, p .0 .0 .columns .len-y, p .0 .1, p .1 .0)
 
--- src/columns.rt:54:5
 numbers-requires-2 : tie.Need-numbers-requires-2
-numbers-requires-2 c κs = ?
+numbers-requires-2 c κs = let p = c .before .before .before .before .before .before .before .before .before .before .before .before .before .before .before .pre in omega (arith, p .0 .0 .len-c, p .0 .1, p .1 .0)
 
--- src/columns.rt:36:1
 same-length : tie.Need-same-length
-same-length c = ?
+same-length c = search needs
 
--- src/columns.rt:36:1
 same-length-2 : tie.Need-same-length-2
-same-length-2 c = ?
+same-length-2 c = search needs
 
--- src/columns.rt:36:1
 same-length-3 : tie.Need-same-length-3
-same-length-3 c = ?
+same-length-3 c = search needs
 
--- src/columns.rt:36:1
 same-length-4 : tie.Need-same-length-4
-same-length-4 c = ?
+same-length-4 c = search needs
 
--- src/columns.rt:36:1
 returns : tie.Need-returns
-returns c = ?
+returns c = let p = c .before .before .before .before .before .before .before .before .before .before .before .before .before .before .before .before .before .before .pre in laid-on _ _ _ _ _ _ _ _ (p .0 .0 .columns) (p .1 .1) (c .before .before .before .before .before .before .before .before .positions .ensures) (c .before .before .before .before .before .positions2 .ensures)
 
 pub load-spec : {M : Type 1} → statement M
 load-spec =

@@ -1,45 +1,33 @@
+-- `links::link` meets its contract: the columns keep their lengths from call to call. Assumes nothing.
+use mathlib.Core.Path.{_∙_}
 use borrow.Author.Needs.{needs}
 use Rattle.revise.proofs.links.link.Statement.{statement}
 use Rattle.revise.proofs.links.link.Tie as tie
-use Rattle.revise.proofs.links.link.Reads as reads
-use Rattle.revise.proofs.links.link.Lts as lts
-use Rattle.revise.proofs.links.take.Reads as take-reads
-use Rattle.revise.proofs.links.write.Reads as write-reads
-use Rattle.revise.proofs.rich.review.Reads as review-reads
 
--- src/links.rt:73:9
 take-requires : tie.Need-take-requires
 take-requires c κs = search needs
 
--- src/links.rt:75:5
 write-requires : tie.Need-write-requires
 write-requires c κs = search needs
 
--- src/links.rt:76:9
 review-requires : tie.Need-review-requires
-review-requires c κs = ?
+review-requires c κs = let p = c .before .before .before .before .before .before .before .before .before .before .before .before .before .before .before .before .before .before .before .pre in let d = p .0 .1 in ((p .0 .0, d .of-was, c .before .before .before .before .before .before .before .before .before .before .before .take .kept .1 .1 .0 ∙ d .of-left, p .1 .0), (d .of-rich, p .0 .2 .rich))
 
--- src/links.rt:77:5
 review-requires-2 : tie.Need-review-requires-2
-review-requires-2 c κs = ?
+review-requires-2 c κs = let p = c .before .before .before .before .before .before .before .before .before .before .before .before .before .before .before .before .before .before .before .before .before .before .before .before .pre in let d = p .0 .1 in let v = c .before .before .before .before .review in ((p .0 .0, d .of-was, c .before .before .before .before .before .before .before .before .before .before .before .before .before .before .before .before .take .kept .1 .1 .0 ∙ d .of-left, p .1 .1), (v .kept .1 .1 .1 .1 .1 .1 .1 .1 .0 ∙ d .of-rich, v .ensures))
 
--- src/links.rt:54:1
 same-length : tie.Need-same-length
 same-length c = search needs
 
--- src/links.rt:54:1
 same-length-2 : tie.Need-same-length-2
 same-length-2 c = search needs
 
--- src/links.rt:54:1
 same-length-3 : tie.Need-same-length-3
 same-length-3 c = search needs
 
--- src/links.rt:54:1
 same-length-4 : tie.Need-same-length-4
 same-length-4 c = search needs
 
--- src/links.rt:54:1
 returns : tie.Need-returns
 returns c = search needs
 

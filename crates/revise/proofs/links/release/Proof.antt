@@ -1,28 +1,21 @@
+-- `links::release` meets its contract: the columns keep their lengths. Assumes nothing.
+use mathlib.Core.Path.{_∙_}
 use borrow.Author.Needs.{needs}
 use Rattle.revise.proofs.links.release.Statement.{statement}
 use Rattle.revise.proofs.links.release.Tie as tie
-use Rattle.revise.proofs.links.release.Reads as reads
-use Rattle.revise.proofs.links.release.Lts as lts
-use Rattle.revise.proofs.links.spend.Reads as spend-reads
-use Rattle.revise.proofs.rich.review.Reads as review-reads
 
--- src/links.rt:98:5
 spend-requires : tie.Need-spend-requires
 spend-requires c κs = search needs
 
--- src/links.rt:100:5
 review-requires : tie.Need-review-requires
-review-requires c κs = ?
+review-requires c κs = let p = c .before .before .before .before .before .before .before .before .before .before .pre in ((p .0 .0, c .before .before .before .before .spend .kept .1 .1 .0 ∙ p .0 .1, p .0 .2, p .1), (p .0 .3, p .0 .4 .rich))
 
--- src/links.rt:82:1
 same-length : tie.Need-same-length
 same-length c = search needs
 
--- src/links.rt:82:1
 same-length-2 : tie.Need-same-length-2
 same-length-2 c = search needs
 
--- src/links.rt:82:1
 returns : tie.Need-returns
 returns c = search needs
 

@@ -1,84 +1,67 @@
+-- `run::all` meets its contract. The loop's invariant: the columns keep their lengths, and the run is fair. Assumes nothing.
+use Prim.Native.Nat.{_-_}
+use Rattle.revise.specs.Sizes.{turns}
+use Rattle.revise.specs.Rows.{Desk, Fair}
+use borrow.Author.Needs.{needs}
 use Rattle.revise.proofs.run.all.Statement.{statement}
 use Rattle.revise.proofs.run.all.Tie as tie
-use Rattle.revise.proofs.run.all.Reads as reads
-use Rattle.revise.proofs.run.all.Lts as lts
-use Rattle.revise.proofs.run.turn.Reads as turn-reads
 
 abbrev Inv-loop : tie.InvT-loop
-Inv-loop z second split ns xs ys was₀ left₀ rich₀ la lb ld lm ia ib news₀ km₀ s₀ k₀ was left rich news km s k =
-    ?
+Inv-loop z second split ns xs ys was₀ left₀ rich₀ la lb ld lm ia ib news₀ km₀ s₀ k₀ was left rich news km s k = Desk ns was left rich news km × Fair s
 
 abbrev μ-loop : tie.MeasureT-loop
-μ-loop z second split ns xs ys was₀ left₀ rich₀ la lb ld lm ia ib news₀ km₀ s₀ k₀ was left rich news km s k =
-    ?
+μ-loop z second split ns xs ys was₀ left₀ rich₀ la lb ld lm ia ib news₀ km₀ s₀ k₀ was left rich news km s k = turns - k
 
--- src/run.rt:235:5
 loop-holds : tie.Need-loop-holds Inv-loop μ-loop
-loop-holds c = ?
+loop-holds c = search needs
 
--- src/run.rt:237:13
 same-length : tie.Need-same-length Inv-loop μ-loop
-same-length c = ?
+same-length c = search needs
 
--- src/run.rt:237:13
 same-length-2 : tie.Need-same-length-2 Inv-loop μ-loop
-same-length-2 c = ?
+same-length-2 c = search needs
 
--- src/run.rt:237:13
 same-length-3 : tie.Need-same-length-3 Inv-loop μ-loop
-same-length-3 c = ?
+same-length-3 c = search needs
 
--- src/run.rt:237:13
 same-length-4 : tie.Need-same-length-4 Inv-loop μ-loop
-same-length-4 c = ?
+same-length-4 c = search needs
 
--- src/run.rt:237:13
 same-length-5 : tie.Need-same-length-5 Inv-loop μ-loop
-same-length-5 c = ?
+same-length-5 c = search needs
 
--- src/run.rt:237:13
 returns : tie.Need-returns Inv-loop μ-loop
-returns c = ?
+returns c = search needs
 
--- src/run.rt:239:9
 turn-requires : tie.Need-turn-requires Inv-loop μ-loop
-turn-requires c κs = ?
+turn-requires c κs = search needs
 
--- src/run.rt:259:9
 add-k : tie.Need-add-k Inv-loop μ-loop
-add-k c = ?
+add-k c = search needs
 
--- src/run.rt:235:5
 loop-less : tie.Need-loop-less Inv-loop μ-loop
-loop-less c = ?
+loop-less c = search needs
 
--- src/run.rt:235:5
 loop-again : tie.Need-loop-again Inv-loop μ-loop
-loop-again c = ?
+loop-again c = search needs
 
--- src/run.rt:209:1
 same-length-6 : tie.Need-same-length-6 Inv-loop μ-loop
-same-length-6 c = ?
+same-length-6 c = search needs
 
--- src/run.rt:209:1
 same-length-7 : tie.Need-same-length-7 Inv-loop μ-loop
-same-length-7 c = ?
+same-length-7 c = search needs
 
--- src/run.rt:209:1
 same-length-8 : tie.Need-same-length-8 Inv-loop μ-loop
-same-length-8 c = ?
+same-length-8 c = search needs
 
--- src/run.rt:209:1
 same-length-9 : tie.Need-same-length-9 Inv-loop μ-loop
-same-length-9 c = ?
+same-length-9 c = search needs
 
--- src/run.rt:209:1
 same-length-10 : tie.Need-same-length-10 Inv-loop μ-loop
-same-length-10 c = ?
+same-length-10 c = search needs
 
--- src/run.rt:209:1
 returns-2 : tie.Need-returns-2 Inv-loop μ-loop
-returns-2 c = ?
+returns-2 c = search needs
 
 pub all-spec : {M : Type 1} → statement M
 all-spec =

@@ -1,100 +1,73 @@
+-- `run::follow` meets its contract: there are such rows, and the columns keep their lengths. Assumes nothing.
+use mathlib.Core.Path.{_∙_}
+use native.Mathlib.Omega.{arith}
 use borrow.Author.Needs.{needs}
 use Rattle.revise.proofs.run.follow.Statement.{statement}
 use Rattle.revise.proofs.run.follow.Tie as tie
-use Rattle.revise.proofs.run.follow.Reads as reads
-use Rattle.revise.proofs.run.follow.Lts as lts
-use Rattle.revise.proofs.links.link.Reads as link-reads
-use Rattle.revise.proofs.links.release.Reads as release-reads
-use Rattle.revise.proofs.links.spend.Reads as spend-reads
-use Rattle.revise.proofs.run.gone.Reads as gone-reads
-use Rattle.revise.proofs.run.hint.Reads as hint-reads
-use Rattle.revise.proofs.run.other.Reads as other-reads
 
--- src/run.rt:86:9
 hint-requires : tie.Need-hint-requires
 hint-requires c κs = search needs
 
--- src/run.rt:87:9
 hint-requires-2 : tie.Need-hint-requires-2
 hint-requires-2 c κs = search needs
 
--- src/run.rt:88:13
 mul-d : tie.Need-mul-d
-mul-d c = ?
+mul-d c = let s = c .before .before .before .before .before .before .before .before .before .before .before .before .before .before in omega (arith, s .pre .1, s .good)
 
--- src/run.rt:88:13
 shared-slice-read-d : tie.Need-shared-slice-read-d
 shared-slice-read-d c = search needs
 
--- src/run.rt:89:13
 mul-m : tie.Need-mul-m
-mul-m c = ?
+mul-m c = let s = c .before .before .before .before .before .before .before .before .before .before .before .before .before .before .before in omega (arith, s .pre .1, s .good)
 
--- src/run.rt:89:13
 shared-slice-read-m : tie.Need-shared-slice-read-m
 shared-slice-read-m c = search needs
 
--- src/run.rt:90:8
 gone-requires : tie.Need-gone-requires
 gone-requires c κs = search needs
 
--- src/run.rt:91:13
 other-requires : tie.Need-other-requires
 other-requires c κs = search needs
 
--- src/run.rt:92:9
 release-requires : tie.Need-release-requires
-release-requires c κs = ?
+release-requires c κs = let p = c .before .before .before .before .before .before .before .before .before .before .before .before .before .before .before .before .before .before .before .before .before .before .pre in let d = p .0 .1 in ((p .0 .0, d .of-was, d .of-left, d .of-rich, p .0 .2), c .before .before .before .other .ensures)
 
--- src/run.rt:92:9
 same-length : tie.Need-same-length
 same-length c = search needs
 
--- src/run.rt:92:9
 same-length-2 : tie.Need-same-length-2
 same-length-2 c = search needs
 
--- src/run.rt:92:9
 same-length-3 : tie.Need-same-length-3
 same-length-3 c = search needs
 
--- src/run.rt:92:9
 returns : tie.Need-returns
 returns c = search needs
 
--- src/run.rt:94:5
 spend-requires : tie.Need-spend-requires
 spend-requires c κs = search needs
 
--- src/run.rt:95:5
 spend-requires-2 : tie.Need-spend-requires-2
-spend-requires-2 c κs = ?
+spend-requires-2 c κs = omega (arith, c .before .before .before .spend .kept, c .before .before .before .before .before .before .before .before .before .hint2 .ensures, c .before .before .before .before .before .before .before .before .before .before .before .before .before .before .before .before .before .before .before .before .before .before .before .pre .0 .1 .of-was)
 
--- src/run.rt:96:5
 link-requires : tie.Need-link-requires
-link-requires c κs = ?
+link-requires c κs = let p = c .before .before .before .before .before .before .before .before .before .before .before .before .before .before .before .before .before .before .before .before .before .before .before .before .before .before .before .before .before .before .before .pre in let d = p .0 .1 in ((p .0 .0, record { of-was = c .before .before .before .before .before .before .before .spend2 .kept .1 .1 .0 ∙ c .before .before .before .before .before .before .before .before .before .before .before .spend .kept .1 .1 .0 ∙ d .of-was; of-left = d .of-left; of-rich = d .of-rich; of-news = d .of-news; of-km = d .of-km }, p .0 .2), (c .before .before .before .before .before .before .before .before .before .before .before .before .before .before .before .before .before .before .hint .ensures, c .before .before .before .before .before .before .before .before .before .before .before .before .before .before .before .before .before .hint2 .ensures))
 
--- src/run.rt:61:1
 same-length-4 : tie.Need-same-length-4
 same-length-4 c = search needs
 
--- src/run.rt:61:1
 same-length-5 : tie.Need-same-length-5
 same-length-5 c = search needs
 
--- src/run.rt:61:1
 same-length-6 : tie.Need-same-length-6
 same-length-6 c = search needs
 
--- src/run.rt:61:1
 same-length-7 : tie.Need-same-length-7
 same-length-7 c = search needs
 
--- src/run.rt:61:1
 same-length-8 : tie.Need-same-length-8
 same-length-8 c = search needs
 
--- src/run.rt:61:1
 returns-2 : tie.Need-returns-2
 returns-2 c = search needs
 

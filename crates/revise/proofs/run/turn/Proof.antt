@@ -1,81 +1,60 @@
+-- `run::turn` meets its contract. Assumes nothing.
+use native.Mathlib.Omega.{arith}
 use borrow.Author.Needs.{needs}
 use Rattle.revise.proofs.run.turn.Statement.{statement}
 use Rattle.revise.proofs.run.turn.Tie as tie
-use Rattle.revise.proofs.run.turn.Reads as reads
-use Rattle.revise.proofs.run.turn.Lts as lts
-use Rattle.revise.proofs.run.choose.Reads as choose-reads
-use Rattle.revise.proofs.run.follow.Reads as follow-reads
-use Rattle.revise.proofs.run.grasp.Reads as grasp-reads
 
--- src/run.rt:175:9
 choose-requires : tie.Need-choose-requires
 choose-requires c κs = search needs
 
--- src/run.rt:177:9
 grasp-requires : tie.Need-grasp-requires
 grasp-requires c κs = search needs
 
--- src/run.rt:177:9
 same-length : tie.Need-same-length
 same-length c = search needs
 
--- src/run.rt:177:9
 same-length-2 : tie.Need-same-length-2
 same-length-2 c = search needs
 
--- src/run.rt:177:9
 same-length-3 : tie.Need-same-length-3
 same-length-3 c = search needs
 
--- src/run.rt:177:9
 same-length-4 : tie.Need-same-length-4
 same-length-4 c = search needs
 
--- src/run.rt:177:9
 same-length-5 : tie.Need-same-length-5
 same-length-5 c = search needs
 
--- src/run.rt:177:9
 returns : tie.Need-returns
 returns c = search needs
 
--- src/run.rt:181:17
 add-r : tie.Need-add-r
-add-r c = ?
+add-r c = omega (arith, c .before .before .before .before .before .before .before .before .before .before .before .before .before .before .before .before .good)
 
--- src/run.rt:182:9
 follow-requires : tie.Need-follow-requires
-follow-requires c κs = ?
+follow-requires c κs = let p = c .before .before .before .before .before .before .before .before .before .before .before .before .before .before .before .before .before .before .before .before .before .pre in ((p .0 .0, p .0 .1, record { rich = p .0 .2 .rich; links = p .0 .2 .links }), (p .1, c .before .before .before .before .before .if2 .taken))
 
--- src/run.rt:182:9
 same-length-6 : tie.Need-same-length-6
 same-length-6 c = search needs
 
--- src/run.rt:182:9
 same-length-7 : tie.Need-same-length-7
 same-length-7 c = search needs
 
--- src/run.rt:182:9
 same-length-8 : tie.Need-same-length-8
 same-length-8 c = search needs
 
--- src/run.rt:182:9
 same-length-9 : tie.Need-same-length-9
 same-length-9 c = search needs
 
--- src/run.rt:182:9
 same-length-10 : tie.Need-same-length-10
 same-length-10 c = search needs
 
--- src/run.rt:182:9
 returns-2 : tie.Need-returns-2
 returns-2 c = search needs
 
--- src/run.rt:149:1
 same-length-11 : tie.Need-same-length-11
 same-length-11 c = search needs
 
--- src/run.rt:149:1
 returns-3 : tie.Need-returns-3
 returns-3 c = search needs
 
