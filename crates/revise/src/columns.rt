@@ -46,7 +46,7 @@ pub fn load(
 )
     requires { ⌜ Fit (now an) (now ax) (now ay) (now ac) × (at + length (now an) ≤ tableRows) ⌝ }
     requires { ⌜ Full (now ns) (now xs) (now ys) (now left) × Laid (now xs) (now ys) at ⌝ }
-    ensures { λ _. ⌜ Laid (now (xs .exit)) (now (ys .exit)) (at + length (now (an .entry))) ⌝ }
+    ensures { λ _. ⌜ Full (now (ns .exit)) (now (xs .exit)) (now (ys .exit)) (now (left .exit)) × Laid (now (xs .exit)) (now (ys .exit)) (at + length (now (an .entry))) ⌝ }
 {
     numbers(an, at, ns);
     positions(ax, at, xs);

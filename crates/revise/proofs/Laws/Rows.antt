@@ -35,17 +35,21 @@ laid-on ns ax ay at xs ys xs' ys' c l u v k h = go (decLt k at)
         (rw (u .here (k - at) (omega (arith, c .len-x)), v .here (k - at) (omega (arith, c .len-y))) (c .inside (k - at) (omega arith)))
 
 -- The first n rows make the board.
-pub board : (n split : ℕ) (ns : List ℕ) (xs ys : List ℤ) (left : List ℕ) → Full ns xs ys left → Laid xs ys n → split ≤ n → n ≤ tableRows → 0 < n → Board (take n ns) (take n xs) (take n ys) split
-board n split ns xs ys left f l parts most some = record {
-  columns = record {
-    len-x = len xs (f .in-x) ∙ sym all;
-    len-y = len ys (f .in-y) ∙ sym all;
-    inside = λ k h. let g : k < n = omega (arith, all) in rw (getD-take n xs k (pos 0) g, getD-take n ys k (pos 0) g) (l k g);
-  };
-  parts = omega (arith, all);
-  most = omega (arith, all);
-  some = omega (arith, all);
-}
+pub board : (n split : ℕ) (ns : List ℕ) (xs ys : List ℤ) (left : List ℕ) → Full ns xs ys left → Laid xs ys n → split ≤ n → n ≤ tableRows → 0 < n
+    → Board (take n ns) (take n xs) (take n ys) split × (length (take n left) ≡ length (take n ns))
+board n split ns xs ys left f l parts most some = (
+  record {
+    columns = record {
+      len-x = len xs (f .in-x) ∙ sym all;
+      len-y = len ys (f .in-y) ∙ sym all;
+      inside = λ k h. let g : k < n = omega (arith, all) in rw (getD-take n xs k (pos 0) g, getD-take n ys k (pos 0) g) (l k g);
+    };
+    parts = omega (arith, all);
+    most = omega (arith, all);
+    some = omega (arith, all);
+  },
+  len left (f .in-left) ∙ sym all,
+)
   where
     len : {X : Type 0} (l : List X) → length l ≡ tableRows → length (take n l) ≡ n
     len l e = length-take-le n l (omega arith)

@@ -30,7 +30,7 @@ same-length-4 : tie.Need-same-length-4
 same-length-4 c = search needs
 
 returns : tie.Need-returns
-returns c = let p = c .before .before .before .before .before .before .before .before .before .before .before .before .before .before .before .before .before .before .pre in laid-on _ _ _ _ _ _ _ _ (p .0 .0 .columns) (p .1 .1) (c .before .before .before .before .before .before .before .before .positions .ensures) (c .before .before .before .before .before .positions2 .ensures)
+returns c = let p = c .before .before .before .before .before .before .before .before .before .before .before .before .before .before .before .before .before .before .pre in (search needs, laid-on _ _ _ _ _ _ _ _ (p .0 .0 .columns) (p .1 .1) (c .before .before .before .before .before .before .before .before .positions .ensures) (c .before .before .before .before .before .positions2 .ensures))
 
 pub load-spec : {M : Type 1} → statement M
 load-spec =

@@ -34,7 +34,7 @@ returns : tie.Need-returns Inv-loop μ-loop
 returns c = search needs
 
 turn-requires : tie.Need-turn-requires Inv-loop μ-loop
-turn-requires c κs = search needs
+turn-requires c κs = let p = c .before .before .before .before .before .before .before .before .before .before .before .before .before .before .before .before .before .before .before .before .pre in let i = c .before .before .before .before .before .before .before .loop .inv in ((p .0 .0, i .0, i .1), p .1)
 
 add-k : tie.Need-add-k Inv-loop μ-loop
 add-k c = search needs
