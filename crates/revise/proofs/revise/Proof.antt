@@ -86,7 +86,7 @@ slice-aggregate-follow-5 : tie.Need-slice-aggregate-follow-5
 slice-aggregate-follow-5 c = sym (length-take-le _ _ (room (c .before .before .before .before .before .before .before .before .before .before) .3))
 
 follow-requires : tie.Need-follow-requires
-follow-requires c κs = let s = c .before .before .before .before .before .before .before .before .before .before .before .before .before .before .before .before .before .before .before .before .before .before .before .before .before .before .before .before .before .before .before .before .before .before .before .before .before .before .before .before .before .before .before .before .before .before in let f = c .before .before .before .before .before .before .before .before .before .before .before .before .before .before .before .before .load2 .ensures in let q = board _ _ _ _ _ _ (f .0) (f .1) (omega arith) (small s) (omega (arith, c .before .before .before .before .before .before .before .before .before .before .before .if1 .left)) in ((q .0, q .1, q .1, s .pre .0 .2), s .pre .1)
+follow-requires c κs = let s = c .before .before .before .before .before .before .before .before .before .before .before .before .before .before .before .before .before .before .before .before .before .before .before .before .before .before .before .before .before .before .before .before .before .before .before .before .before .before .before .before .before .before .before .before .before .before in let f = c .before .before .before .before .before .before .before .before .before .before .before .before .before .before .before .before .load2 .ensures in let q = board _ (length (s .args .an .now)) _ _ _ _ (f .0) (f .1) (omega arith) (small s) (omega (arith, c .before .before .before .before .before .before .before .before .before .before .before .if1 .left)) in ((q .0, q .1, q .1, s .pre .0 .2), s .pre .1)
 
 same-length : tie.Need-same-length
 same-length c = search needs
