@@ -1,0 +1,102 @@
+// What a link takes of its rows, and what that changes of the rows that are richer.
+use crate::pairs;
+use crate::rich;
+use crate::run::Run;
+use crate::sizes;
+ghost use mathlib.Core.Path.{_≡_};
+ghost use Prim.Native.Nat.{_<_, _≤_};
+ghost use lib.ListN.{length};
+ghost use Rattle.join.specs.Sizes.{linkRows, tableRows};
+ghost use Rattle.revise.specs.Sizes.{richRows};
+ghost use Rattle.revise.specs.Rows.{Board, Desk, Fair};
+
+// Takes m of what a row has, as far as it goes.
+pub fn spend(r: usize, m: u32, left: &mut [u32])
+    requires { ⌜ r < length (now left) ⌝ }
+{
+    let x = left[r];
+    if x < m {
+        left[r] = 0;
+        return;
+    }
+    left[r] = x - m;
+}
+
+// Takes of rows i and j the lesser of what they have left, and gives it.
+fn take(i: usize, j: usize, left: &mut [u32]) -> u32
+    requires { ⌜ (i < length (now left)) × (j < length (now left)) ⌝ }
+{
+    let x = left[i];
+    let y = left[j];
+    let m = if x < y { x } else { y };
+    spend(i, m, left);
+    spend(j, m, left);
+    m
+}
+
+// Writes link n of A's row i and B's row j, if it has an amount and there is room; gives how many are written.
+fn write(n: usize, i: usize, j: usize, d: u32, m: u32, news: &mut [u64], km: &mut [u32]) -> usize
+    requires { ⌜ (length (now news) ≡ linkRows) × (length (now km) ≡ linkRows) × (n ≤ linkRows) × (i < tableRows) × (j < tableRows) ⌝ }
+    ensures { λ r. ⌜ r ≤ linkRows ⌝ }
+{
+    if m == 0 {
+        return n;
+    }
+    if n == sizes::LINKS {
+        return n;
+    }
+    news[n] = pairs::bind(d, i, j);
+    km[n] = m;
+    n + 1
+}
+
+// Takes the pair of A's row i and B's row j as the next link.
+pub fn link(
+    s: Run,
+    i: usize,
+    j: usize,
+    d: u32,
+    split: usize,
+    ns: &[u32],
+    xs: &[i16],
+    ys: &[i16],
+    was: &[u32],
+    left: &mut [u32],
+    rich: &mut [u64],
+    news: &mut [u64],
+    km: &mut [u32],
+) -> Run
+    requires { ⌜ Board (now ns) (now xs) (now ys) split × Desk (now ns) (now was) (now left) (now rich) (now news) (now km) × Fair s ⌝ }
+    requires { ⌜ (i < length (now ns)) × (j < length (now ns)) ⌝ }
+    ensures { λ r. ⌜ Fair r ⌝ }
+{
+    let m = take(i, j, left);
+    let mut r = s;
+    r.links = write(s.links, i, j, d, m, news, km);
+    let n = rich::review(i, s.rich, split, ns, xs, ys, was, left, rich);
+    r.rich = rich::review(j, n, split, ns, xs, ys, was, left, rich);
+    r
+}
+
+// A link there is the edited node's, and gone: its other row i has its amount m back.
+pub fn release(
+    s: Run,
+    i: usize,
+    m: u32,
+    split: usize,
+    ns: &[u32],
+    xs: &[i16],
+    ys: &[i16],
+    was: &mut [u32],
+    left: &[u32],
+    rich: &mut [u64],
+) -> Run
+    requires { ⌜ Board (now ns) (now xs) (now ys) split × (length (now was) ≡ length (now ns)) × (length (now left) ≡ length (now ns)) × (length (now rich) ≡ richRows) × Fair s ⌝ }
+    requires { ⌜ i < length (now ns) ⌝ }
+    ensures { λ r. ⌜ Fair r ⌝ }
+{
+    spend(i, m, was);
+    let mut r = s;
+    r.rich = rich::review(i, s.rich, split, ns, xs, ys, was, left, rich);
+    r
+}
