@@ -1,7 +1,8 @@
 //! The check without a join says yes to finished lists, so that it is what is timed, and to no other.
 
 use bench::bytes::Master;
-use bench::check::Check;
+use bench::peer::Method;
+use bench::same::Same;
 use bench::shapes::{Class, Count};
 use model::buffers::{links_of, list_of, table_of};
 use model::generate::damage::{damage_list, LIST_FAULTS};
@@ -12,11 +13,13 @@ use model::rows::Node;
 use model::sizes::{LINK_BYTES, LIST_ROWS};
 
 fn says_yes(a: &[Node], b: &[Node], list: &[u8]) -> bool {
+    let mut same = Same::default();
     let mut masters = [Master::default(), Master::default()];
-    for (master, nodes) in masters.iter_mut().zip([a, b]) {
-        assert_eq!(master.read(&table_of(nodes)), Ok(()));
+    for (side, nodes) in [a, b].into_iter().enumerate() {
+        assert_eq!(masters[side].read(&table_of(nodes)), Ok(()));
+        same.arrange(side, &mut masters[side]);
     }
-    Check::default().is_finished(&masters, list)
+    same.is_finished(&masters, list)
 }
 
 #[test]
