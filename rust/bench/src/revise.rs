@@ -39,8 +39,9 @@ impl After<'_> {
         let side = 1 - from.side;
         let nodes = &self.masters[side].nodes;
         let open = |block: usize| {
-            let block = (0..).zip(nodes).skip(block * BLOCK).take(BLOCK);
-            block.filter(|(place, _)| lefts[*place] != 0)
+            let (first, end) = (block * BLOCK, nodes.len().min((block + 1) * BLOCK));
+            let nodes = (first..).zip(&nodes[first..end]).zip(&lefts[first..end]);
+            nodes.filter_map(|(node, left)| (*left != 0).then_some(node))
         };
         let from = &self.masters[from.side].nodes[from.place];
         let nearest = self.blocks[side].nearest(from, Partner::NONE, open);
