@@ -60,13 +60,11 @@ fn edit_aims(lines: &[Line]) -> Vec<Aim<'_>> {
         against_same("an edit", EDIT_BY_SAME),
         sorting,
         sorting_slowest,
-        Aim {
-            says: format!("from 256 to 512 nodes an edit grows at most {GROWTH} times"),
-            about: About::All,
-            bound: GROWTH,
-            figure: Box::new(|line| growth(lines, line).unwrap_or(f64::INFINITY)),
-            shown: times,
-        },
+        times_longer(
+            format!("from 256 to 512 nodes an edit grows at most {GROWTH} times"),
+            GROWTH,
+            |line| growth(lines, line).unwrap_or(f64::INFINITY),
+        ),
     ]
 }
 
@@ -76,22 +74,25 @@ fn pair_aims(lines: &[Line]) -> Vec<Aim<'_>> {
         against_same("Pair", PAIR_BY_SAME),
         sorting,
         sorting_slowest,
-        Aim {
-            says: format!("Pair takes at most {BY_UNIFORM} times as long as on uniform drawings of the same capacities"),
-            about: About::All,
-            bound: BY_UNIFORM,
-            figure: Box::new(|line| by_uniform(lines, line).unwrap_or(f64::INFINITY)),
-            shown: times,
-        },
+        times_longer(
+            format!("Pair takes at most {BY_UNIFORM} times as long as on uniform drawings of the same capacities"),
+            BY_UNIFORM,
+            |line| by_uniform(lines, line).unwrap_or(f64::INFINITY),
+        ),
     ]
 }
 
 fn against_same(what: &str, bound: f64) -> Aim<'static> {
+    let says = format!("{what} takes at most {bound} times the same method in safe Rust");
+    times_longer(says, bound, Line::by_same)
+}
+
+fn times_longer<'a>(says: String, bound: f64, figure: impl Fn(&Line) -> f64 + 'a) -> Aim<'a> {
     Aim {
-        says: format!("{what} takes at most {bound} times the same method in safe Rust"),
+        says,
         about: About::All,
         bound,
-        figure: Box::new(Line::by_same),
+        figure: Box::new(figure),
         shown: times,
     }
 }

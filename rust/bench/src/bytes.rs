@@ -4,7 +4,7 @@ use std::mem;
 
 use model::sizes::*;
 
-#[derive(Clone, Copy, Debug)]
+#[derive(Clone, Copy, Debug, PartialEq, Eq)]
 pub struct Node {
     pub x: i32,
     pub y: i32,

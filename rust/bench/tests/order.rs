@@ -2,7 +2,7 @@
 
 use bench::bytes::{Master, Node};
 use bench::order::Order;
-use model::buffers::{nodes_of, table_of};
+use model::buffers::table_of;
 use model::generate::drawing::{Drawing, SIZES};
 use model::generate::random::Random;
 
@@ -14,15 +14,20 @@ fn z(node: &Node) -> Vec<bool> {
         .collect()
 }
 
+/// Tables of every size and family.
+fn tables() -> impl Iterator<Item = Vec<u8>> {
+    (0..300).zip(SIZES.into_iter().cycle()).map(|(seed, size)| {
+        let drawing = Drawing::random(&mut Random::new(seed), size);
+        table_of(&drawing.a)
+    })
+}
+
 #[test]
 fn rows_are_in_order() {
     let (mut order, mut master) = (Order::default(), Master::default());
     let mut tied = 0;
-    for seed in 0..300 {
-        let mut random = Random::new(seed);
-        let size = SIZES[seed as usize % SIZES.len()];
-        let drawing = Drawing::random(&mut random, size);
-        master.read(&table_of(&drawing.a)).unwrap();
+    for (seed, table) in tables().enumerate() {
+        master.read(&table).unwrap();
         let nodes = &master.nodes;
         let mut expected: Vec<u16> = (0..nodes.len() as u16).collect();
         expected.sort_by_key(|row| {
@@ -43,26 +48,15 @@ fn rows_are_in_order() {
 fn arranged_nodes_are_found() {
     let (mut order, mut master) = (Order::default(), Master::default());
     let mut moved = 0;
-    for seed in 0..100 {
-        let mut random = Random::new(seed);
-        let size = SIZES[seed as usize % SIZES.len()];
-        let table = table_of(&Drawing::random(&mut random, size).b);
+    for (seed, table) in tables().enumerate() {
         master.read(&table).unwrap();
-        let count = master.nodes.len();
+        let before = master.nodes.clone();
         master.arrange(order.rows(&master.nodes));
-        assert_eq!(master.nodes.len(), count);
-        for (row, node) in nodes_of(&table).iter().enumerate() {
-            let number = node.number as u16;
-            assert_eq!(master.row_of(number), Some(row), "seed {seed}");
-            let place = master.place_of(number).unwrap();
-            let found = &master.nodes[place];
-            let of_table = [
-                node.number as i32,
-                node.horizontal as i32,
-                node.vertical as i32,
-            ];
-            assert_eq!([i32::from(found.number), found.x, found.y], of_table);
-            assert_eq!(u64::from(found.left), node.capacity);
+        assert_eq!(master.nodes.len(), before.len());
+        for (row, node) in before.iter().enumerate() {
+            assert_eq!(master.row_of(node.number), Some(row), "seed {seed}");
+            let place = master.place_of(node.number).unwrap();
+            assert_eq!(master.nodes[place], *node, "seed {seed}");
             moved += usize::from(place != row);
         }
     }
