@@ -115,8 +115,8 @@ impl Chain {
         }
     }
 
-    /// The place of the top's nearest open partner. Nothing is nearer to the node beneath it than the top, so most
-    /// searches end where they start: with that node.
+    /// The place of the top's nearest open partner. The search starts with the node beneath the top: the two are near
+    /// each other, so that most blocks are skipped.
     fn nearest(&self, blocks: &Blocks, side: usize, top: u16) -> u16 {
         let (from, others) = (self.sides[side].node(top), &self.sides[1 - side]);
         let start = match self.stack[..] {

@@ -1,4 +1,4 @@
-//! The five calls in safe Rust, over any method of joining and of checking a list.
+//! The five calls in safe Rust, over any method of joining, of checking a list and of revising it.
 
 use model::answer::{answer, Refusal};
 use model::rows::{capacity_in_range, position_in_range, Edit};
