@@ -1,8 +1,10 @@
 //! Tables to nodes and links to a list: the part of the work that both peers share.
 
+use std::mem;
+
 use model::sizes::*;
 
-#[derive(Clone, Copy, Debug)]
+#[derive(Clone, Copy, Debug, PartialEq, Eq)]
 pub struct Node {
     pub x: i32,
     pub y: i32,
@@ -52,20 +54,26 @@ fn slot(number: u16) -> usize {
     (u32::from(number).wrapping_mul(0x9e37_79b9) >> (u32::BITS - SLOT_BITS)) as usize
 }
 
-/// The nodes of a table in row order, each found by its number.
+/// The nodes of a table, each found by its number; in row order until they are arranged.
 pub struct Master {
     pub nodes: Vec<Node>,
+    /// For each node, its row in the table.
+    rows: Vec<u16>,
     index: Index,
+    /// Where the nodes were before they were arranged.
+    before: Vec<Node>,
 }
 
 impl Default for Master {
     fn default() -> Master {
         Master {
             nodes: Vec::with_capacity(TABLE_ROWS),
+            rows: Vec::with_capacity(TABLE_ROWS),
             index: Index {
                 heads: vec![0; 1 << SLOT_BITS],
                 nexts: vec![0; TABLE_ROWS],
             },
+            before: Vec::with_capacity(TABLE_ROWS),
         }
     }
 }
@@ -73,17 +81,16 @@ impl Default for Master {
 impl Master {
     /// Puts the nodes of a table of the stated length in the place of those before; or gives the first faulty row.
     pub fn read(&mut self, table: &[u8]) -> Result<(), usize> {
-        self.nodes.clear();
-        self.index.heads.fill(0);
-        for row in table.chunks_exact(NODE_BYTES) {
-            let node = Node::read(row);
+        self.clear();
+        for (row, bytes) in (0..).zip(table.chunks_exact(NODE_BYTES)) {
+            let node = Node::read(bytes);
             if node.number == 0 {
                 break;
             }
-            if !node.in_range() || self.row_of(node.number).is_some() {
+            if !node.in_range() || self.place_of(node.number).is_some() {
                 return Err(self.nodes.len());
             }
-            self.add(node);
+            self.add(node, row);
         }
         let nodes = self.nodes.len();
         let mut rest = table[nodes * NODE_BYTES..].chunks_exact(NODE_BYTES);
@@ -93,14 +100,37 @@ impl Master {
         }
     }
 
-    fn add(&mut self, node: Node) {
+    /// Puts the nodes of a table that was just read in the order of these rows.
+    pub fn arrange(&mut self, rows: impl Iterator<Item = u16>) {
+        mem::swap(&mut self.nodes, &mut self.before);
+        self.clear();
+        for row in rows {
+            self.add(self.before[usize::from(row)], row);
+        }
+    }
+
+    fn clear(&mut self) {
+        self.nodes.clear();
+        self.rows.clear();
+        self.index.heads.fill(0);
+    }
+
+    fn add(&mut self, node: Node, row: u16) {
         let (place, head) = (self.nodes.len(), slot(node.number));
         self.index.nexts[place] = self.index.heads[head];
         self.index.heads[head] = place as u16 + 1;
         self.nodes.push(node);
+        self.rows.push(row);
     }
 
+    /// The row of the table.
     pub fn row_of(&self, number: u16) -> Option<usize> {
+        let place = self.place_of(number)?;
+        Some(usize::from(self.rows[place]))
+    }
+
+    /// The place among the nodes.
+    pub fn place_of(&self, number: u16) -> Option<usize> {
         let mut entry = self.index.heads[slot(number)];
         while entry != 0 {
             let place = usize::from(entry) - 1;
@@ -175,4 +205,10 @@ pub fn write_from(list: &mut [u8], links: &[Link], from: usize) {
         row.copy_from_slice(&row_of(*link));
     }
     rest.fill(0);
+}
+
+/// Puts the items in the place of those before, in the memory that is there.
+pub fn refill<T>(column: &mut Vec<T>, items: impl Iterator<Item = T>) {
+    column.clear();
+    column.extend(items);
 }

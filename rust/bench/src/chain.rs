@@ -5,63 +5,77 @@
 //! two are each other's nearest and so a link of the join. What is left of the
 //! stack stays true, since partners only ever go away; it is never built anew.
 
-use crate::bytes::{link, Link, Master, Node};
+use crate::blocks::{Blocks, Partner, BLOCK};
+use crate::bytes::{link, refill, Link, Master, Node};
 
 /// The nodes of a master, and where the open ones stand.
 #[derive(Default)]
 struct Side {
-    /// The open nodes, close together, in no order.
-    open: Vec<Node>,
-    /// For each open node, its row.
-    rows: Vec<u16>,
-    /// For each row, the place of its node among the open ones.
+    /// In each block the open nodes stand first, in no order.
+    nodes: Vec<Node>,
+    /// For each of them, its place in the master.
     places: Vec<u16>,
+    /// For each place in the master, where its node stands now.
+    spots: Vec<u16>,
+    /// For each block, the end of its open nodes.
+    ends: Vec<usize>,
+    /// How many are open.
+    open: usize,
 }
 
 impl Side {
     fn open(&mut self, nodes: &[Node]) {
-        self.open.clear();
-        self.open.extend(nodes);
-        self.rows.clear();
-        self.rows.extend(0..self.open.len() as u16);
-        self.places.clone_from(&self.rows);
+        self.nodes.clear();
+        self.nodes.extend(nodes);
+        refill(&mut self.places, 0..nodes.len() as u16);
+        self.spots.clone_from(&self.places);
+        let ends = (0..nodes.len()).step_by(BLOCK);
+        refill(
+            &mut self.ends,
+            ends.map(|first| (first + BLOCK).min(nodes.len())),
+        );
+        self.open = nodes.len();
     }
 
-    fn node(&mut self, row: u16) -> &mut Node {
-        &mut self.open[usize::from(self.places[usize::from(row)])]
+    fn spot(&self, place: u16) -> usize {
+        usize::from(self.spots[usize::from(place)])
     }
 
-    /// The row of the nearest open node, ties by number; there is an open node.
-    fn nearest(&self, from: &Node) -> u16 {
-        let mut nearest = (u64::MAX, 0);
-        for (place, node) in self.open.iter().enumerate() {
-            let key = u64::from(from.distance(node)) << 16 | u64::from(node.number);
-            if key < nearest.0 {
-                nearest = (key, place);
-            }
-        }
-        self.rows[nearest.1]
+    fn node(&self, place: u16) -> &Node {
+        &self.nodes[self.spot(place)]
+    }
+
+    fn block(&self, block: usize) -> impl Iterator<Item = (usize, &Node)> {
+        let first = block * BLOCK;
+        (first..).zip(&self.nodes[first..self.ends[block]])
+    }
+
+    /// The place of an open node; there is one.
+    fn first(&self) -> u16 {
+        let mut firsts = (0..).step_by(BLOCK).zip(&self.ends);
+        let open = firsts.find(|(first, end)| first < *end);
+        self.places[open.map_or(0, |(first, _)| first)]
     }
 
     /// Takes the amount from the node; true if that used it up.
-    fn take(&mut self, row: u16, amount: u16) -> bool {
-        let node = self.node(row);
-        node.left -= amount;
-        let used_up = node.left == 0;
+    fn take(&mut self, place: u16, amount: u16) -> bool {
+        let spot = self.spot(place);
+        self.nodes[spot].left -= amount;
+        let used_up = self.nodes[spot].left == 0;
         if used_up {
-            self.close(row);
+            self.close(spot);
         }
         used_up
     }
 
-    /// Puts the last open node in the place of this one.
-    fn close(&mut self, row: u16) {
-        let place = self.places[usize::from(row)];
-        self.open.swap_remove(usize::from(place));
-        self.rows.swap_remove(usize::from(place));
-        if let Some(moved) = self.rows.get(usize::from(place)) {
-            self.places[usize::from(*moved)] = place;
-        }
+    /// Puts the last open node of the block here.
+    fn close(&mut self, spot: usize) {
+        let end = &mut self.ends[spot / BLOCK];
+        *end -= 1;
+        self.nodes[spot] = self.nodes[*end];
+        self.places[spot] = self.places[*end];
+        self.spots[usize::from(self.places[spot])] = spot as u16;
+        self.open -= 1;
     }
 }
 
@@ -69,30 +83,29 @@ impl Side {
 pub struct Chain {
     /// A, then B.
     sides: [Side; 2],
-    /// Rows; those at even places are of A.
+    /// Places; those at even heights are of A.
     stack: Vec<u16>,
 }
 
 impl Chain {
-    pub fn join(&mut self, masters: &[Master; 2], links: &mut Vec<Link>) {
+    pub fn join(&mut self, masters: &[Master; 2], blocks: &[Blocks; 2], links: &mut Vec<Link>) {
         for (side, master) in self.sides.iter_mut().zip(masters) {
             side.open(&master.nodes);
         }
         links.clear();
-        self.take_links(links);
+        self.take_links(blocks, links);
         links.sort_unstable();
     }
 
-    fn take_links(&mut self, links: &mut Vec<Link>) {
+    fn take_links(&mut self, blocks: &[Blocks; 2], links: &mut Vec<Link>) {
         self.stack.clear();
-        while self.sides.iter().all(|side| !side.open.is_empty()) {
+        while self.sides.iter().all(|side| side.open > 0) {
             let Some(&top) = self.stack.last() else {
-                self.stack.push(self.sides[0].rows[0]);
+                self.stack.push(self.sides[0].first());
                 continue;
             };
             let side = (self.stack.len() - 1) % 2;
-            let from = *self.sides[side].node(top);
-            let nearest = self.sides[1 - side].nearest(&from);
+            let nearest = self.nearest(&blocks[1 - side], side, top);
             match self.stack[..] {
                 [.., beneath, _] if beneath == nearest => {
                     links.push(self.link_top(side, top, beneath));
@@ -100,6 +113,18 @@ impl Chain {
                 _ => self.stack.push(nearest),
             }
         }
+    }
+
+    /// The place of the top's nearest open partner. The search starts with the node beneath the top: the two are near
+    /// each other, so that most blocks are skipped.
+    fn nearest(&self, blocks: &Blocks, side: usize, top: u16) -> u16 {
+        let (from, others) = (self.sides[side].node(top), &self.sides[1 - side]);
+        let start = match self.stack[..] {
+            [.., beneath, _] => Partner::new(from, others.node(beneath), others.spot(beneath)),
+            _ => Partner::NONE,
+        };
+        let nearest = blocks.nearest(from, start, |block| others.block(block));
+        others.places[nearest.at]
     }
 
     /// Links the top and the node beneath it. A used-up node goes from the stack

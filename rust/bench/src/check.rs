@@ -1,5 +1,5 @@
-//! A lent list checked without a join: its rows one by one, and then one pass
-//! over all pairs for one that the list passed over wrongly.
+//! A lent list checked without a join: its rows one by one, and then the pairs
+//! for one that the list passed over wrongly, a node of A and a block of B at a time.
 //!
 //! A pair is open where it is earlier than the last link of both its nodes; a
 //! node with something left has no last one. Amounts that are within all
@@ -7,115 +7,151 @@
 
 use model::sizes::LINK_BYTES;
 
-use crate::bytes::{link, parts, rows, Link, Master};
+use crate::blocks::{key, Blocks, BLOCK};
+use crate::bytes::{link, parts, refill, rows, Link, Master, Node};
 
-/// Columns of a master, for the pass over all pairs.
+/// What is left of each node of a master, and where its partners end.
 #[derive(Default)]
 struct Side {
-    xs: Vec<i16>,
-    ys: Vec<i16>,
-    numbers: Vec<u32>,
     lefts: Vec<u16>,
-    /// The distance of a node's last link, and its partner's number in it.
-    limits: Vec<u32>,
-    others: Vec<u32>,
+    /// The key of its partner in its last link; none is too late where something is left.
+    limits: Vec<u64>,
 }
 
 impl Side {
-    fn fill(&mut self, master: &Master) {
-        let nodes = &master.nodes;
-        refill(&mut self.xs, nodes.iter().map(|node| node.x as i16));
-        refill(&mut self.ys, nodes.iter().map(|node| node.y as i16));
-        refill(
-            &mut self.numbers,
-            nodes.iter().map(|node| u32::from(node.number)),
-        );
+    fn fill(&mut self, nodes: &[Node]) {
         refill(&mut self.lefts, nodes.iter().map(|node| node.left));
-        refill(&mut self.limits, nodes.iter().map(|_| u32::MAX));
-        refill(&mut self.others, nodes.iter().map(|_| u32::MAX));
+        refill(&mut self.limits, nodes.iter().map(|_| u64::MAX));
     }
 
     /// The limit holds once nothing is left.
-    fn take(&mut self, place: usize, amount: u16, distance: u32, other: u16) {
+    fn take(&mut self, place: usize, amount: u16, partner: u64) {
         self.lefts[place] -= amount;
         if self.lefts[place] == 0 {
-            self.limits[place] = distance;
-            self.others[place] = u32::from(other);
+            self.limits[place] = partner;
         }
     }
 }
 
-fn refill<T>(column: &mut Vec<T>, items: impl Iterator<Item = T>) {
-    column.clear();
-    column.extend(items);
-}
-
+/// A block of B in columns, so that one pass takes several nodes at a time. Lanes without a node have the limit 0,
+/// before which no pair comes.
 #[derive(Default)]
-pub struct Check {
-    a: Side,
-    b: Side,
+struct Lanes {
+    xs: [i16; BLOCK],
+    ys: [i16; BLOCK],
+    numbers: [u32; BLOCK],
+    /// A limit's distance and its number.
+    limits: [u32; BLOCK],
+    others: [u32; BLOCK],
+    /// The greatest of the limits.
+    latest: u64,
 }
 
-impl Check {
-    /// Whether the list is the finished one of two masters.
-    pub fn is_finished(&mut self, masters: &[Master; 2], list: &[u8]) -> bool {
-        self.a.fill(&masters[0]);
-        self.b.fill(&masters[1]);
-        let mut before = 0;
-        let mut count = 0;
-        for row in rows(list) {
-            if row.0 <= before || self.spend(masters, row).is_none() {
-                return false;
-            }
-            before = row.0;
-            count += 1;
+impl Lanes {
+    fn new(nodes: &[Node], limits: &[u64]) -> Lanes {
+        let mut lanes = Lanes::default();
+        for (lane, (node, limit)) in nodes.iter().zip(limits).enumerate() {
+            lanes.xs[lane] = node.x as i16;
+            lanes.ys[lane] = node.y as i16;
+            lanes.numbers[lane] = u32::from(node.number);
+            [lanes.limits[lane], lanes.others[lane]] = halves(*limit);
+            lanes.latest = lanes.latest.max(*limit);
         }
-        let rest = &list[count * LINK_BYTES..];
-        rest.iter().all(|byte| *byte == 0) && !self.any_open()
+        lanes
     }
 
-    /// Takes the amount of a row from both its nodes; none if the row is wrong.
-    fn spend(&mut self, masters: &[Master; 2], row: Link) -> Option<()> {
-        let (distance, number_a, number_b) = parts(row);
-        let (i, j) = (masters[0].row_of(number_a)?, masters[1].row_of(number_b)?);
-        let amount = self.a.lefts[i].min(self.b.lefts[j]);
-        let right = link(&masters[0].nodes[i], &masters[1].nodes[j], amount);
-        if amount == 0 || row != right {
-            return None;
-        }
-        self.a.take(i, amount, distance, number_b);
-        self.b.take(j, amount, distance, number_a);
-        Some(())
-    }
-
-    fn any_open(&self) -> bool {
-        (0..self.a.xs.len()).any(|place| self.open_with(place) != 0)
-    }
-
-    /// The number of nodes of B that are open with this one of A; no branch but the loop's.
-    fn open_with(&self, place: usize) -> u32 {
-        let (x, y) = (self.a.xs[place], self.a.ys[place]);
-        let (number, other) = (self.a.numbers[place], self.a.others[place]);
-        let limit = self.a.limits[place];
-        // Slices of one length, so that the loop needs no test of an index.
-        let count = self.b.xs.len();
-        let (xs, ys) = (&self.b.xs[..count], &self.b.ys[..count]);
-        let (numbers, others) = (&self.b.numbers[..count], &self.b.others[..count]);
-        let limits = &self.b.limits[..count];
+    /// Whether a node of the block is open with this one of A; no branch but the loop's.
+    fn open_with(&self, node: &Node, limit: u64) -> bool {
+        let (x, y, number) = (node.x as i16, node.y as i16, u32::from(node.number));
+        let [limit, other] = halves(limit);
         let mut open = 0;
-        for at in 0..count {
-            let across = u32::from(x.abs_diff(xs[at]));
-            let up = u32::from(y.abs_diff(ys[at]));
+        for lane in 0..BLOCK {
+            let across = u32::from(x.abs_diff(self.xs[lane]));
+            let up = u32::from(y.abs_diff(self.ys[lane]));
             let distance = across * across + up * up;
-            let by_a = distance + late(numbers[at], other) <= limit;
-            let by_b = distance + late(number, others[at]) <= limits[at];
+            let by_a = distance + late(self.numbers[lane], other) <= limit;
+            let by_b = distance + late(number, self.others[lane]) <= self.limits[lane];
             open += u32::from(by_a & by_b);
         }
-        open
+        open != 0
     }
+}
+
+/// The distance and the number of a key.
+fn halves(key: u64) -> [u32; 2] {
+    [(key >> u32::BITS) as u32, key as u32]
 }
 
 /// 0 where the number comes before the other one, so that ties are settled by it.
 fn late(number: u32, other: u32) -> u32 {
     u32::from(number >= other)
+}
+
+#[derive(Default)]
+pub struct Check {
+    /// A, then B.
+    sides: [Side; 2],
+    lanes: Vec<Lanes>,
+}
+
+impl Check {
+    /// Whether the list is the finished one of two masters; the blocks are of B.
+    pub fn is_finished(&mut self, masters: &[Master; 2], blocks: &Blocks, list: &[u8]) -> bool {
+        let rest = &list[rows(list).count() * LINK_BYTES..];
+        rest.iter().all(|byte| *byte == 0) && self.is_join(masters, blocks, rows(list))
+    }
+
+    /// Whether the links are those of the join of two masters, in pair order; the blocks are of B.
+    pub fn is_join(
+        &mut self,
+        masters: &[Master; 2],
+        blocks: &Blocks,
+        links: impl Iterator<Item = Link>,
+    ) -> bool {
+        for (side, master) in self.sides.iter_mut().zip(masters) {
+            side.fill(&master.nodes);
+        }
+        let mut before = 0;
+        for link in links {
+            if link.0 <= before || self.spend(masters, link).is_none() {
+                return false;
+            }
+            before = link.0;
+        }
+        !self.any_open(masters, blocks)
+    }
+
+    /// Takes the amount of a link from both its nodes; none if the link is wrong.
+    fn spend(&mut self, [a, b]: &[Master; 2], taken: Link) -> Option<()> {
+        let (distance, number_a, number_b) = parts(taken);
+        let (i, j) = (a.place_of(number_a)?, b.place_of(number_b)?);
+        let [in_a, in_b] = &mut self.sides;
+        let amount = in_a.lefts[i].min(in_b.lefts[j]);
+        if amount == 0 || taken != link(&a.nodes[i], &b.nodes[j], amount) {
+            return None;
+        }
+        in_a.take(i, amount, key(distance, number_b));
+        in_b.take(j, amount, key(distance, number_a));
+        Some(())
+    }
+
+    fn any_open(&mut self, [a, b]: &[Master; 2], blocks: &Blocks) -> bool {
+        let [in_a, in_b] = &self.sides;
+        let parts = b.nodes.chunks(BLOCK).zip(in_b.limits.chunks(BLOCK));
+        refill(
+            &mut self.lanes,
+            parts.map(|(nodes, limits)| Lanes::new(nodes, limits)),
+        );
+        let mut ends = a.nodes.iter().zip(&in_a.limits);
+        ends.any(|(node, limit)| open_in_blocks(node, *limit, blocks, &self.lanes))
+    }
+}
+
+/// Skips a block where already its bounds come too late for the node, or for all its own nodes.
+fn open_in_blocks(node: &Node, limit: u64, blocks: &Blocks, lanes: &[Lanes]) -> bool {
+    blocks.bounds.iter().zip(lanes).any(|(bounds, lanes)| {
+        let distance = bounds.distance(node);
+        let late = bounds.key(distance) >= limit || key(distance, node.number) >= lanes.latest;
+        !late && lanes.open_with(node, limit)
+    })
 }

@@ -3,8 +3,8 @@
 //! - [`shapes`]: the families of drawings that are timed.
 //! - [`cases`]: the calls that are timed, and what they are lent.
 //! - [`calls`]: a set of the five calls; [`archive`] is the engine's.
-//! - [`peer`]: the five calls in safe Rust, over a method of joining and checking.
-//! - [`chain`], [`check`]: the engine's own method, once more.
+//! - [`peer`]: the five calls in safe Rust, over a method of joining, checking and revising.
+//! - [`same`]: the engine's own method, once more: [`order`], [`blocks`], [`chain`], [`check`], [`revise`].
 //! - [`sorted`]: the plain way, all pairs sorted, to check a list and to make one.
 //! - [`bytes`]: tables to nodes and links to a list, as both peers do it.
 //! - [`measure`]: the three by turns on the same calls, timed by [`clock`] and compared.
@@ -13,6 +13,7 @@
 
 pub mod aims;
 pub mod archive;
+pub mod blocks;
 pub mod bytes;
 pub mod calls;
 pub mod cases;
@@ -21,7 +22,10 @@ pub mod check;
 pub mod clock;
 pub mod count;
 pub mod measure;
+pub mod order;
 pub mod peer;
 pub mod report;
+pub mod revise;
+pub mod same;
 pub mod shapes;
 pub mod sorted;

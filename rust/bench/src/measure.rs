@@ -7,7 +7,8 @@ use crate::archive::Archive;
 use crate::calls::Calls;
 use crate::cases::{Call, Case};
 use crate::clock::now;
-use crate::peer::{Peer, Same};
+use crate::peer::Peer;
+use crate::same::Same;
 use crate::shapes::{Class, DRAWINGS};
 use crate::sorted::Sorted;
 

@@ -1,4 +1,4 @@
-//! The five calls in safe Rust, over any method of joining and of checking a list.
+//! The five calls in safe Rust, over any method of joining, of checking a list and of revising it.
 
 use model::answer::{answer, Refusal};
 use model::rows::{capacity_in_range, position_in_range, Edit};
@@ -6,31 +6,34 @@ use model::sizes::*;
 
 use crate::bytes::{common, difference, parts, rows, write_from, write_row, Link, Master};
 use crate::calls::Calls;
-use crate::chain::Chain;
-use crate::check::Check;
+
+/// The node that an edit is about.
+#[derive(Clone, Copy)]
+pub struct Edited {
+    /// 0 for A, 1 for B.
+    pub side: usize,
+    pub number: u16,
+}
 
 pub trait Method: Default {
+    /// Puts the nodes of a master that was just read in the order that the method wants; by default they stay.
+    fn arrange(&mut self, _side: usize, _master: &mut Master) {}
+
     /// Puts the links of the join, in pair order, in the place of those given.
     fn join(&mut self, masters: &[Master; 2], links: &mut Vec<Link>);
 
     /// Says yes only to the finished list; where it says no, the join decides.
     fn is_finished(&mut self, masters: &[Master; 2], list: &[u8]) -> bool;
-}
 
-/// The engine's own method: the check without a join, and the chain.
-#[derive(Default)]
-pub struct Same {
-    check: Check,
-    chain: Chain,
-}
-
-impl Method for Same {
-    fn join(&mut self, masters: &[Master; 2], links: &mut Vec<Link>) {
-        self.chain.join(masters, links);
-    }
-
-    fn is_finished(&mut self, masters: &[Master; 2], list: &[u8]) -> bool {
-        self.check.is_finished(masters, list)
+    /// As the join, after an edit of one node; the list was finished before it. By default joined anew.
+    fn revise(
+        &mut self,
+        masters: &[Master; 2],
+        _list: &[u8],
+        _edited: Edited,
+        links: &mut Vec<Link>,
+    ) {
+        self.join(masters, links);
     }
 }
 
@@ -75,9 +78,15 @@ impl<M: Method> Peer<M> {
         let row = self.judge(&edit)?;
         let table = if edit.master == MASTER_A { a } else { b };
         change(table, &edit, row);
+        let edited = Edited {
+            side: edit.master as usize,
+            number: edit.number as u16,
+        };
         // The changed table is sound: it was, and the edit is.
-        let _ = self.masters[edit.master as usize].read(table);
-        self.method.join(&self.masters, &mut self.links);
+        let _ = self.masters[edited.side].read(table);
+        self.arrange(edited.side);
+        self.method
+            .revise(&self.masters, list, edited, &mut self.links);
         let kept = common(list, &self.links);
         write_from(list, &self.links, kept);
         Ok(kept as u64)
@@ -96,13 +105,13 @@ impl<M: Method> Peer<M> {
         if number == 0 {
             return Err(Refusal::Field);
         }
-        let row = nodes.row_of(number).ok_or(Refusal::Presence)?;
+        let place = nodes.place_of(number).ok_or(Refusal::Presence)?;
         let taken = rows(list).filter(|link| {
             let (_, in_a, in_b) = parts(*link);
             [in_a, in_b][usize::from(master)] == number
         });
         let taken: u16 = taken.map(|link| link.1).sum();
-        Ok(u64::from(nodes.nodes[row].left - taken))
+        Ok(u64::from(nodes.nodes[place].left - taken))
     }
 
     fn try_bands(
@@ -132,7 +141,13 @@ impl<M: Method> Peer<M> {
         }
         let [in_a, in_b] = &mut self.masters;
         in_a.read(a).map_err(|row| Refusal::TableA { row })?;
-        in_b.read(b).map_err(|row| Refusal::TableB { row })
+        in_b.read(b).map_err(|row| Refusal::TableB { row })?;
+        [0, 1].into_iter().for_each(|side| self.arrange(side));
+        Ok(())
+    }
+
+    fn arrange(&mut self, side: usize) {
+        self.method.arrange(side, &mut self.masters[side]);
     }
 
     /// The place of the list. Where it is not finished, the links of the join are there afterwards.

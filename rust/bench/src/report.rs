@@ -14,8 +14,9 @@ pub const HALF: Count = Count::Each(256);
 pub fn heading() -> String {
     format!(
         "Whole calls through the archive, by turns with two peers in safe Rust; after each turn every answer and every\n\
-         lent byte is compared. `same` is the engine's method: the lent list is checked without a join, and the new one is\n\
-         made by the chain. `plain` sorts all pairs, once to check the lent list and once for the new one.\n\
+         lent byte is compared. `same` is the engine's method: the lent list is checked without a join, a list is made by\n\
+         the chain, and an edit revises the lent one and checks what comes out. `plain` sorts all pairs, once to check the\n\
+         lent list and once for the new one.\n\
          Processor time of the calling thread: medians over {} calls, {DRAWINGS} drawings {ROUNDS} times ({} for `plain`), after\n\
          one time that is not counted. `worst` is the engine's longest call. Each call gets fresh copies of its buffers, not\n\
          timed; nothing else is cleared: the peers keep their own memory, and caches stay warm.",
@@ -71,9 +72,24 @@ pub fn growth(lines: &[Line], line: &Line) -> Option<f64> {
         count: HALF,
         ..line.class
     };
+    let longer = longer_than(lines, line, class)?;
+    (line.class.count == FULL).then_some(longer)
+}
+
+/// How many times longer the engine takes than in the uniform family; none where that was not timed.
+pub fn by_uniform(lines: &[Line], line: &Line) -> Option<f64> {
+    let class = Class {
+        shape: Shape::Uniform,
+        ..line.class
+    };
+    longer_than(lines, line, class)
+}
+
+/// The engine's time by that of the same call on another class.
+fn longer_than(lines: &[Line], line: &Line, class: Class) -> Option<f64> {
     let same = |other: &&Line| other.class == class && other.call == line.call;
-    let half = lines.iter().find(same)?;
-    (line.class.count == FULL).then(|| line.engine / half.engine)
+    let other = lines.iter().find(same)?;
+    Some(line.engine / other.engine)
 }
 
 /// All lines with tabs between their fields.

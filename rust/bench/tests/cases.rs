@@ -2,7 +2,8 @@
 
 use bench::calls::Calls;
 use bench::cases::{Call, Case, CALLS, EDITS};
-use bench::peer::{Peer, Same};
+use bench::peer::Peer;
+use bench::same::Same;
 use bench::shapes::{Class, Count, Shape, SHAPES};
 use model::answer::{number_of, value_of};
 use model::buffers::{links_of, nodes_of};

@@ -1,8 +1,10 @@
 //! The check without a join says yes to finished lists, so that it is what is timed, and to no other.
 
-use bench::bytes::Master;
+mod masters;
+
 use bench::check::Check;
 use bench::shapes::{Class, Count};
+use masters::Arranged;
 use model::buffers::{links_of, list_of, table_of};
 use model::generate::damage::{damage_list, LIST_FAULTS};
 use model::generate::drawing::{Drawing, Size};
@@ -12,11 +14,8 @@ use model::rows::Node;
 use model::sizes::{LINK_BYTES, LIST_ROWS};
 
 fn says_yes(a: &[Node], b: &[Node], list: &[u8]) -> bool {
-    let mut masters = [Master::default(), Master::default()];
-    for (master, nodes) in masters.iter_mut().zip([a, b]) {
-        assert_eq!(master.read(&table_of(nodes)), Ok(()));
-    }
-    Check::default().is_finished(&masters, list)
+    let Arranged { masters, blocks } = Arranged::new(&[a, b].map(table_of));
+    Check::default().is_finished(&masters, &blocks[1], list)
 }
 
 #[test]

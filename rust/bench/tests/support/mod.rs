@@ -1,7 +1,8 @@
 //! The model beside both peers: the same answer, and every lent byte the same.
 
 use bench::calls::Calls;
-use bench::peer::{Peer, Same};
+use bench::peer::Peer;
+use bench::same::Same;
 use bench::sorted::Sorted;
 use model::calls;
 use model::engine::{Buffers, Request};

@@ -1,0 +1,218 @@
+//! The links after an edit, made from those before it.
+//!
+//! The old links are followed in pair order, with what each node has left before
+//! the edit and after it. The edited node's old links are dropped: before the edit it
+//! counts as having nothing. While no node is richer than before, only old links can
+//! be taken; a richer node may also be linked to its nearest open partner, and the
+//! earliest of all these links is the next one.
+
+use crate::blocks::{Blocks, Partner, BLOCK};
+use crate::bytes::{link, parts, refill, Link, Master};
+use crate::peer::Edited;
+
+/// The revision gives up beyond these: the chain is then as fast.
+const MOST_CANDIDATES: usize = 64;
+const MOST_SEARCHES: usize = 2_000;
+
+/// The drawing after the edit.
+#[derive(Clone, Copy)]
+pub struct After<'a> {
+    pub masters: &'a [Master; 2],
+    pub blocks: &'a [Blocks; 2],
+}
+
+/// A node: its master, and its place there.
+#[derive(Clone, Copy, PartialEq, Eq)]
+struct End {
+    side: usize,
+    place: usize,
+}
+
+impl After<'_> {
+    fn end(&self, side: usize, number: u16) -> Option<End> {
+        let place = self.masters[side].place_of(number)?;
+        Some(End { side, place })
+    }
+
+    /// The nearest partner that has something left; none if there is no such one.
+    fn nearest(&self, from: End, lefts: &[u16]) -> Option<End> {
+        let side = 1 - from.side;
+        let nodes = &self.masters[side].nodes;
+        let open = |block: usize| {
+            let (first, end) = (block * BLOCK, nodes.len().min((block + 1) * BLOCK));
+            let nodes = (first..).zip(&nodes[first..end]).zip(&lefts[first..end]);
+            nodes.filter_map(|(node, left)| (*left != 0).then_some(node))
+        };
+        let from = &self.masters[from.side].nodes[from.place];
+        let nearest = self.blocks[side].nearest(from, Partner::NONE, open);
+        (nearest.key != Partner::NONE.key).then_some(End {
+            side,
+            place: nearest.at,
+        })
+    }
+
+    /// Where the link of two nodes stands in pair order.
+    fn key(&self, one: End, other: End) -> u64 {
+        let [a, b] = if one.side == 0 {
+            [one, other]
+        } else {
+            [other, one]
+        };
+        let [in_a, in_b] = self.masters;
+        link(&in_a.nodes[a.place], &in_b.nodes[b.place], 0).0
+    }
+}
+
+/// What each node of a master has left where the revision is.
+#[derive(Default)]
+struct Left {
+    old: Vec<u16>,
+    new: Vec<u16>,
+}
+
+/// A richer node with its nearest open partner; the key is that of their link.
+#[derive(Clone, Copy)]
+struct Candidate {
+    key: u64,
+    richer: End,
+    partner: End,
+}
+
+#[derive(Default)]
+pub struct Revision {
+    /// Of A, then of B.
+    left: [Left; 2],
+    candidates: Vec<Candidate>,
+    searches: usize,
+}
+
+impl Revision {
+    /// Puts the new links, in pair order, in the place of those given; none where it gives up.
+    pub fn revise(
+        &mut self,
+        after: After,
+        old: impl Iterator<Item = Link>,
+        edited: Edited,
+        links: &mut Vec<Link>,
+    ) -> Option<()> {
+        links.clear();
+        self.start(after, edited)?;
+        for old in old {
+            self.take_candidates(after, old.0, links)?;
+            self.follow(after, old, edited, links)?;
+        }
+        self.take_candidates(after, u64::MAX, links)
+    }
+
+    fn start(&mut self, after: After, edited: Edited) -> Option<()> {
+        for (left, master) in self.left.iter_mut().zip(after.masters) {
+            refill(&mut left.new, master.nodes.iter().map(|node| node.left));
+            left.old.clone_from(&left.new);
+        }
+        self.candidates.clear();
+        self.searches = 0;
+        let Some(end) = after.end(edited.side, edited.number) else {
+            return Some(());
+        };
+        self.left[end.side].old[end.place] = 0;
+        self.compare(after, end)
+    }
+
+    /// Goes past an old link, and takes it as far as it can still be had.
+    fn follow(
+        &mut self,
+        after: After,
+        (key, amount): Link,
+        edited: Edited,
+        links: &mut Vec<Link>,
+    ) -> Option<()> {
+        let (_, a, b) = parts((key, amount));
+        let numbers = [a, b];
+        if numbers[edited.side] == edited.number {
+            let side = 1 - edited.side;
+            let partner = after.end(side, numbers[side])?;
+            self.pass(partner, amount)?;
+            return self.compare(after, partner);
+        }
+        let ends = [after.end(0, a)?, after.end(1, b)?];
+        for end in ends {
+            self.pass(end, amount)?;
+        }
+        self.take(after, key, ends, links)
+    }
+
+    /// What the old link took from its node; none if that is more than it had.
+    fn pass(&mut self, end: End, amount: u16) -> Option<()> {
+        let old = &mut self.left[end.side].old[end.place];
+        *old = old.checked_sub(amount)?;
+        Some(())
+    }
+
+    /// Takes the candidates whose links come before this key.
+    fn take_candidates(&mut self, after: After, key: u64, links: &mut Vec<Link>) -> Option<()> {
+        while let Some(at) = self.earliest_before(key) {
+            let next = self.candidates[at];
+            if self.left[next.partner.side].new[next.partner.place] == 0 {
+                self.candidates.swap_remove(at);
+                self.compare(after, next.richer)?;
+            } else {
+                self.take(after, next.key, [next.richer, next.partner], links)?;
+            }
+        }
+        Some(())
+    }
+
+    fn earliest_before(&self, key: u64) -> Option<usize> {
+        let candidates = self.candidates.iter().enumerate();
+        let (at, earliest) = candidates.min_by_key(|(_, candidate)| candidate.key)?;
+        (earliest.key < key).then_some(at)
+    }
+
+    /// Links two nodes with the lesser of what they have left.
+    fn take(
+        &mut self,
+        after: After,
+        key: u64,
+        ends: [End; 2],
+        links: &mut Vec<Link>,
+    ) -> Option<()> {
+        let [one, other] = ends.map(|end| self.left[end.side].new[end.place]);
+        let amount = one.min(other);
+        if amount > 0 {
+            links.push((key, amount));
+        }
+        for end in ends {
+            self.left[end.side].new[end.place] -= amount;
+            self.compare(after, end)?;
+        }
+        Some(())
+    }
+
+    /// Makes a node a candidate where it is richer than before, and only there.
+    fn compare(&mut self, after: After, end: End) -> Option<()> {
+        let left = &self.left[end.side];
+        let richer = left.new[end.place] > left.old[end.place];
+        let mut candidates = self.candidates.iter();
+        match candidates.position(|candidate| candidate.richer == end) {
+            None if richer => return self.search(after, end),
+            Some(at) if !richer => drop(self.candidates.swap_remove(at)),
+            _ => {}
+        }
+        Some(())
+    }
+
+    fn search(&mut self, after: After, richer: End) -> Option<()> {
+        self.searches += 1;
+        let lefts = &self.left[1 - richer.side].new;
+        if let Some(partner) = after.nearest(richer, lefts) {
+            let key = after.key(richer, partner);
+            self.candidates.push(Candidate {
+                key,
+                richer,
+                partner,
+            });
+        }
+        let few = self.searches <= MOST_SEARCHES && self.candidates.len() <= MOST_CANDIDATES;
+        few.then_some(())
+    }
+}
