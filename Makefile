@@ -51,7 +51,7 @@ fuzz: $(archive)
 	@FUZZ_SECONDS=$(SECONDS) cargo test --release --offline --manifest-path rust/differential/Cargo.toml --test calls fuzz -- --ignored --nocapture
 
 # What the archive is made of; a proof is part of it, since without one there is no archive.
-$(archive): $(shell find crates/matching crates/tables crates/join crates/verify crates/contract crates/pairing -name '*.rt' -o -name '*.antt')
+$(archive): $(shell find crates/matching crates/bounds crates/space crates/tables crates/join crates/verify crates/revise crates/contract crates/pairing -name '*.rt' -o -name '*.antt')
 	@rt staticlib pairing
 
 into = $(DESTDIR)$(PREFIX)
