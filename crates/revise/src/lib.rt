@@ -8,7 +8,7 @@ mod run;
 mod sizes;
 
 ghost use mathlib.Core.Path.{_≡_};
-ghost use Prim.Native.Nat.{_<_, _≤_};
+ghost use Prim.Native.Nat.{_≤_};
 ghost use lib.ListN.{length};
 ghost use Rattle.join.specs.Contract.{Fit};
 ghost use Rattle.join.specs.Sizes.{linkRows};

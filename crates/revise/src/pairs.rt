@@ -1,7 +1,6 @@
 // Two rows and their distance, packed into one number: distance, first row, second row.
 use crate::sizes;
 use join::nearest::pack;
-ghost use mathlib.Core.Path.{_≡_};
 ghost use Prim.Native.Nat.{_<_};
 ghost use lib.ListN.{length};
 ghost use Rattle.join.specs.Sizes.{tableRows};

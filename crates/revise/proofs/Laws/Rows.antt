@@ -12,6 +12,7 @@ use Rattle.join.specs.Sizes.{tableRows}
 use Rattle.join.specs.Rows.{Columns, Full}
 use Rattle.revise.specs.Rows.{Board, Copied, Laid}
 
+-- A column of positions, as it is copied.
 module _ (from : List ℤ) (at : ℕ) (old : List ℤ) where
   pub copied-start : Copied from at 0 old old
   copied-start = record { here = λ k h. absurd (omega arith); ahead = λ k h. refl }
@@ -24,7 +25,8 @@ module _ (from : List ℤ) (at : ℕ) (old : List ℤ) where
       go q g (no e) = getD-set-other new (at + k) (at + q) _ _ (λ d. e (omega arith)) ∙ c .here q (omega arith)
 
 -- A master's positions, copied behind the rows before them.
-pub laid-on : (ns : List ℕ) (ax ay : List ℤ) (at : ℕ) (xs ys xs' ys' : List ℤ) → Columns ns ax ay → Laid xs ys at → Copied ax at (length ax) xs xs' → Copied ay at (length ay) ys ys' → Laid xs' ys' (at + length ns)
+pub laid-on : (ns : List ℕ) (ax ay : List ℤ) (at : ℕ) (xs ys xs' ys' : List ℤ)
+    → Columns ns ax ay → Laid xs ys at → Copied ax at (length ax) xs xs' → Copied ay at (length ay) ys ys' → Laid xs' ys' (at + length ns)
 laid-on ns ax ay at xs ys xs' ys' c l u v k h = go (decLt k at)
   where
     go : Dec (k < at) → Inside (getD xs' k (pos 0)) (getD ys' k (pos 0))

@@ -1,5 +1,5 @@
 -- `begin` meets its contract. The loop's invariant: the columns keep their lengths. Assumes nothing.
-use Prim.Native.Nat.{_≤_, _-_}
+use Prim.Native.Nat.{_-_}
 use mathlib.Core.Path.{_≡_}
 use native.Mathlib.Omega.{arith}
 use lib.ListN.{length, length-set}

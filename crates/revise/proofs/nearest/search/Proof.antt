@@ -1,5 +1,5 @@
 -- `nearest::search` meets its contract. The loop's invariant: the row kept is one of the rows. Assumes nothing.
-use Prim.Native.Nat.{_<_, _≤_, _-_}
+use Prim.Native.Nat.{_<_, _-_}
 use mathlib.Core.Path.{_≡_}
 use native.Mathlib.Omega.{arith}
 use lib.ListN.{length}
