@@ -195,6 +195,26 @@ fn guess(
     )
 }
 
+// The m links of a guess where it is right, else the links joined anew.
+fn settle(
+    m: usize,
+    a: &[u8],
+    b: &[u8],
+    ka: &mut [u32],
+    kb: &mut [u32],
+    kd: &mut [u32],
+    km: &mut [u32],
+) -> usize
+    requires { ⌜ Sound (now a) (now b) × Room (now ka) (now kb) (now kd) (now km) ⌝ }
+    requires { ⌜ (m ≤ linkRows → Joined (nodesIn (now a)) (nodesIn (now b)) (now ka) (now kb) (now kd) (now km) m) ⌝ }
+    ensures { λ r. ⌜ Joined (nodesIn (now (a .entry))) (nodesIn (now (b .entry))) (now (ka .exit)) (now (kb .exit)) (now (kd .exit)) (now (km .exit)) r ⌝ }
+{
+    if m <= LINKS {
+        return m;
+    }
+    links(a, b, ka, kb, kd, km)
+}
+
 // The links into columns ka to km; their number. The columns la to lm have the n links before the edit.
 pub fn revised(
     a: &[u8],
@@ -215,12 +235,29 @@ pub fn revised(
     ensures { λ r. ⌜ Joined (nodesIn (now (a .entry))) (nodesIn (now (b .entry))) (now (ka .exit)) (now (kb .exit)) (now (kd .exit)) (now (km .exit)) r ⌝ }
 {
     let z = number_of(edit);
-    let second = master_of(edit) == 1;
+    // A branch for each master, so that the guess is a call of its own and its columns are off the stack when the links are joined anew.
+    if master_of(edit) == 1 {
+        let m = guess(
+            a,
+            b,
+            z,
+            true,
+            &la[..n],
+            &lb[..n],
+            &ld[..n],
+            &lm[..n],
+            ka,
+            kb,
+            kd,
+            km,
+        );
+        return settle(m, a, b, ka, kb, kd, km);
+    }
     let m = guess(
         a,
         b,
         z,
-        second,
+        false,
         &la[..n],
         &lb[..n],
         &ld[..n],
@@ -230,8 +267,5 @@ pub fn revised(
         kd,
         km,
     );
-    if m <= LINKS {
-        return m;
-    }
-    links(a, b, ka, kb, kd, km)
+    settle(m, a, b, ka, kb, kd, km)
 }

@@ -1,6 +1,5 @@
--- `pairing::revised::revised` meets its contract: what was checked, or the links anew. Assumes nothing.
+-- `pairing::revised::revised` meets its contract: what was checked, or the links anew, for either master. Assumes nothing.
 use mathlib.Core.Path.{sym, _∙_}
-use native.Mathlib.Omega.{arith}
 use lib.Seq.{length-take-le}
 use Rattle.pairing.specs.Laws.Checked.{cut-even}
 use borrow.Author.Needs.{needs}
@@ -14,19 +13,25 @@ master-of-requires : tie.Need-master-of-requires
 master-of-requires c κs = search needs
 
 slice-aggregate-guess : tie.Need-slice-aggregate-guess
-slice-aggregate-guess c = sym (length-take-le _ _ (c .before .before .before .before .before .before .before .before .before .before .before .before .before .before .pre .1 .0 .a))
+slice-aggregate-guess c = sym (length-take-le _ _ (c .before .before .before .before .before .before .before .before .before .before .before .before .before .before .before .pre .1 .0 .a))
 
 slice-aggregate-guess-2 : tie.Need-slice-aggregate-guess-2
-slice-aggregate-guess-2 c = sym (length-take-le _ _ (c .before .before .before .before .before .before .before .before .before .before .before .before .before .before .before .pre .1 .0 .b))
+slice-aggregate-guess-2 c = sym (length-take-le _ _ (c .before .before .before .before .before .before .before .before .before .before .before .before .before .before .before .before .pre .1 .0 .b))
 
 slice-aggregate-guess-3 : tie.Need-slice-aggregate-guess-3
-slice-aggregate-guess-3 c = sym (length-take-le _ _ (c .before .before .before .before .before .before .before .before .before .before .before .before .before .before .before .before .pre .1 .0 .distance))
+slice-aggregate-guess-3 c = sym (length-take-le _ _ (c .before .before .before .before .before .before .before .before .before .before .before .before .before .before .before .before .before .pre .1 .0 .distance))
 
 slice-aggregate-guess-4 : tie.Need-slice-aggregate-guess-4
-slice-aggregate-guess-4 c = sym (length-take-le _ _ (c .before .before .before .before .before .before .before .before .before .before .before .before .before .before .before .before .before .pre .1 .0 .amount))
+slice-aggregate-guess-4 c = sym (length-take-le _ _ (c .before .before .before .before .before .before .before .before .before .before .before .before .before .before .before .before .before .before .pre .1 .0 .amount))
 
 guess-requires : tie.Need-guess-requires
-guess-requires c κs = let p = c .before .before .before .before .before .before .before .before .before .before .before .before .before .before .before .before .before .before .before .before .before .pre in (p .0 .0, cut-even _ _ _ _ _ (p .1 .0) (p .1 .1), p .1 .2)
+guess-requires c κs = let p = c .before .before .before .before .before .before .before .before .before .before .before .before .before .before .before .before .before .before .before .before .before .before .pre in (p .0 .0, cut-even _ _ _ _ _ (p .1 .0) (p .1 .1), p .1 .2)
+
+settle-requires : tie.Need-settle-requires
+settle-requires c κs =
+    let p = c .before .before .before .before .before .before .before .before .before .before .before .before .before .before .before .before .before .before .before .before .before .before .before .before .before .before .before .before .before .before .before .before .before .before .before .pre in
+    let r = p .1 .2 in
+    ((p .0 .0, record { in-a = c .before .before .before .before .before .before .before .before .before .before .before .ka .given ∙ r .in-a; in-b = c .before .before .before .before .before .before .before .before .before .kb .given ∙ r .in-b; in-d = c .before .before .before .before .before .before .before .kd .given ∙ r .in-d; in-m = c .before .before .before .before .before .km .given ∙ r .in-m }), c .before .before .before .before .before .before .before .before .before .before .before .before .guess .ensures)
 
 same-length : tie.Need-same-length
 same-length c = search needs
@@ -41,12 +46,28 @@ same-length-4 : tie.Need-same-length-4
 same-length-4 c = search needs
 
 returns : tie.Need-returns
-returns c = c .before .before .before .before .before .before .before .before .before .guess .ensures (omega arith)
+returns c = search needs
 
-links-requires : tie.Need-links-requires
-links-requires c κs =
+slice-aggregate-guess-5 : tie.Need-slice-aggregate-guess-5
+slice-aggregate-guess-5 c = sym (length-take-le _ _ (c .before .before .before .before .before .before .before .before .before .before .before .before .before .before .before .pre .1 .0 .a))
+
+slice-aggregate-guess-6 : tie.Need-slice-aggregate-guess-6
+slice-aggregate-guess-6 c = sym (length-take-le _ _ (c .before .before .before .before .before .before .before .before .before .before .before .before .before .before .before .before .pre .1 .0 .b))
+
+slice-aggregate-guess-7 : tie.Need-slice-aggregate-guess-7
+slice-aggregate-guess-7 c = sym (length-take-le _ _ (c .before .before .before .before .before .before .before .before .before .before .before .before .before .before .before .before .before .pre .1 .0 .distance))
+
+slice-aggregate-guess-8 : tie.Need-slice-aggregate-guess-8
+slice-aggregate-guess-8 c = sym (length-take-le _ _ (c .before .before .before .before .before .before .before .before .before .before .before .before .before .before .before .before .before .before .pre .1 .0 .amount))
+
+guess-requires-2 : tie.Need-guess-requires-2
+guess-requires-2 c κs = let p = c .before .before .before .before .before .before .before .before .before .before .before .before .before .before .before .before .before .before .before .before .before .before .pre in (p .0 .0, cut-even _ _ _ _ _ (p .1 .0) (p .1 .1), p .1 .2)
+
+settle-requires-2 : tie.Need-settle-requires-2
+settle-requires-2 c κs =
     let p = c .before .before .before .before .before .before .before .before .before .before .before .before .before .before .before .before .before .before .before .before .before .before .before .before .before .before .before .before .before .before .before .before .before .before .before .pre in
-    (p .0 .0, record { in-a = c .before .before .before .before .before .before .before .before .before .before .before .before .ka .given ∙ p .1 .2 .in-a; in-b = c .before .before .before .before .before .before .before .before .before .before .kb .given ∙ p .1 .2 .in-b; in-d = c .before .before .before .before .before .before .before .before .kd .given ∙ p .1 .2 .in-d; in-m = c .before .before .before .before .before .before .km .given ∙ p .1 .2 .in-m })
+    let r = p .1 .2 in
+    ((p .0 .0, record { in-a = c .before .before .before .before .before .before .before .before .before .before .before .ka3 .given ∙ r .in-a; in-b = c .before .before .before .before .before .before .before .before .before .kb3 .given ∙ r .in-b; in-d = c .before .before .before .before .before .before .before .kd3 .given ∙ r .in-d; in-m = c .before .before .before .before .before .km3 .given ∙ r .in-m }), c .before .before .before .before .before .before .before .before .before .before .before .before .guess2 .ensures)
 
 same-length-5 : tie.Need-same-length-5
 same-length-5 c = search needs
@@ -74,12 +95,18 @@ revised-spec =
     slice-aggregate-guess-3
     slice-aggregate-guess-4
     guess-requires
+    settle-requires
     same-length
     same-length-2
     same-length-3
     same-length-4
     returns
-    links-requires
+    slice-aggregate-guess-5
+    slice-aggregate-guess-6
+    slice-aggregate-guess-7
+    slice-aggregate-guess-8
+    guess-requires-2
+    settle-requires-2
     same-length-5
     same-length-6
     same-length-7
