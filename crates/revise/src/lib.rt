@@ -1,4 +1,5 @@
 // The links after an edit, made from those before it. Nothing is promised of them: who uses them checks them.
+mod blocks;
 mod columns;
 mod links;
 mod nearest;
@@ -25,6 +26,7 @@ fn begin(
     ns: &[u32],
     xs: &[i16],
     ys: &[i16],
+    edges: &[u16],
     was: &mut [u32],
     left: &[u32],
     rich: &mut [u64],
@@ -36,7 +38,7 @@ fn begin(
     while k < end {
         if ns[k] == z {
             was[k] = 0;
-            return rich::review(k, 0, split, ns, xs, ys, was, left, rich);
+            return rich::review(k, 0, split, ns, xs, ys, edges, was, left, rich);
         }
         k += 1;
     }
@@ -51,6 +53,7 @@ fn entrance(
     ns: &[u32],
     xs: &[i16],
     ys: &[i16],
+    edges: &[u16],
     was: &mut [u32],
     left: &[u32],
     rich: &mut [u64],
@@ -59,9 +62,21 @@ fn entrance(
     ensures { λ n. ⌜ n ≤ richRows ⌝ }
 {
     if second {
-        return begin(z, split, ns.len(), split, ns, xs, ys, was, left, rich);
+        return begin(
+            z,
+            split,
+            ns.len(),
+            split,
+            ns,
+            xs,
+            ys,
+            edges,
+            was,
+            left,
+            rich,
+        );
     }
-    begin(z, 0, split, split, ns, xs, ys, was, left, rich)
+    begin(z, 0, split, split, ns, xs, ys, edges, was, left, rich)
 }
 
 // The links of the rows after the edit of the node with number z, into columns with their nodes' places; gives their number.
@@ -91,9 +106,11 @@ fn follow(
     requires { ⌜ (length (now ka) ≡ linkRows) × (length (now kb) ≡ linkRows) × (length (now kd) ≡ linkRows) × (length (now km) ≡ linkRows) × (length (now ja) ≡ linkRows) × (length (now jb) ≡ linkRows) ⌝ }
     ensures { λ r. ⌜ r ≤ linkRows ⌝ }
 {
+    let mut edges = [0u16; sizes::FRAMES];
+    blocks::survey(ns, xs, ys, &mut edges);
     let mut rich = [0u64; sizes::RICH];
     let mut news = [0u64; sizes::LINKS];
-    let n = entrance(z, second, split, ns, xs, ys, was, left, &mut rich);
+    let n = entrance(z, second, split, ns, xs, ys, &edges, was, left, &mut rich);
     let s = run::Run {
         row: 0,
         rich: n,
@@ -108,6 +125,7 @@ fn follow(
         ns,
         xs,
         ys,
+        &edges,
         was,
         left,
         &mut rich,

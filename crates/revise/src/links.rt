@@ -60,6 +60,7 @@ pub fn link(
     ns: &[u32],
     xs: &[i16],
     ys: &[i16],
+    edges: &[u16],
     was: &[u32],
     left: &mut [u32],
     rich: &mut [u64],
@@ -73,8 +74,8 @@ pub fn link(
     let m = take(i, j, left);
     let mut r = s;
     r.links = write(s.links, i, j, d, m, news, km);
-    let n = rich::review(i, s.rich, split, ns, xs, ys, was, left, rich);
-    r.rich = rich::review(j, n, split, ns, xs, ys, was, left, rich);
+    let n = rich::review(i, s.rich, split, ns, xs, ys, edges, was, left, rich);
+    r.rich = rich::review(j, n, split, ns, xs, ys, edges, was, left, rich);
     r
 }
 
@@ -87,6 +88,7 @@ pub fn release(
     ns: &[u32],
     xs: &[i16],
     ys: &[i16],
+    edges: &[u16],
     was: &mut [u32],
     left: &[u32],
     rich: &mut [u64],
@@ -97,6 +99,6 @@ pub fn release(
 {
     spend(i, m, was);
     let mut r = s;
-    r.rich = rich::review(i, s.rich, split, ns, xs, ys, was, left, rich);
+    r.rich = rich::review(i, s.rich, split, ns, xs, ys, edges, was, left, rich);
     r
 }

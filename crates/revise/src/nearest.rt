@@ -1,4 +1,6 @@
 // The row nearest to a row among those of the other master that have something left.
+use crate::blocks::bound;
+use crate::blocks::stop;
 use crate::sizes;
 use join::nearest::Near;
 use join::nearest::apart;
@@ -6,6 +8,7 @@ use join::nearest::pack;
 ghost use mathlib.Core.Path.{_≡_};
 ghost use Prim.Native.Nat.{_<_, _≤_};
 ghost use lib.ListN.{length};
+ghost use Rattle.join.specs.Sizes.{tableRows};
 ghost use Rattle.join.specs.Rows.{Columns};
 ghost use Rattle.revise.specs.Rows.{Board};
 
@@ -30,39 +33,94 @@ fn closer(s: Near, c: u64, k: usize, size: usize) -> Near
     s
 }
 
-// The nearest to row t of the rows from first to end; its key is none where nothing is left of them.
+// The nearest to row t of s and the rows from first to end.
 fn search(
+    t: usize,
+    first: usize,
+    end: usize,
+    s: Near,
+    ns: &[u32],
+    xs: &[i16],
+    ys: &[i16],
+    left: &[u32],
+) -> Near
+    requires { ⌜ Columns (now ns) (now xs) (now ys) × (length (now left) ≡ length (now ns)) × (t < length (now ns)) × (end ≤ length (now ns)) × (s .at < length (now ns)) ⌝ }
+    ensures { λ r. ⌜ r .at < length (now (ns .entry)) ⌝ }
+{
+    let size = ns.len();
+    let mut r = s;
+    let mut k = first;
+    while k < end {
+        r = closer(r, key(t, k, ns, xs, ys, left), k, size);
+        k += 1;
+    }
+    r
+}
+
+// The nearest to row t of s and the rows from first to end, all of one block; a block too far away is not looked through.
+fn visit(
+    t: usize,
+    first: usize,
+    end: usize,
+    s: Near,
+    ns: &[u32],
+    xs: &[i16],
+    ys: &[i16],
+    edges: &[u16],
+    left: &[u32],
+) -> Near
+    requires { ⌜ Columns (now ns) (now xs) (now ys) × (length (now left) ≡ length (now ns)) × (t < length (now ns)) × (end ≤ length (now ns)) × (s .at < length (now ns)) ⌝ }
+    requires { ⌜ (first < end) × (length (now ns) ≤ tableRows) ⌝ }
+    ensures { λ r. ⌜ r .at < length (now (ns .entry)) ⌝ }
+{
+    if bound(t, first, ns, xs, ys, edges) >= s.key {
+        return s;
+    }
+    search(t, first, end, s, ns, xs, ys, left)
+}
+
+// The nearest to row t of the rows from first to end; its key is none where nothing is left of them.
+fn scan(
     t: usize,
     first: usize,
     end: usize,
     ns: &[u32],
     xs: &[i16],
     ys: &[i16],
+    edges: &[u16],
     left: &[u32],
 ) -> Near
-    requires { ⌜ Columns (now ns) (now xs) (now ys) × (length (now left) ≡ length (now ns)) × (t < length (now ns)) × (end ≤ length (now ns)) ⌝ }
+    requires { ⌜ Columns (now ns) (now xs) (now ys) × (length (now left) ≡ length (now ns)) × (t < length (now ns)) × (end ≤ length (now ns)) × (length (now ns) ≤ tableRows) ⌝ }
     ensures { λ r. ⌜ r .at < length (now (ns .entry)) ⌝ }
 {
-    let size = ns.len();
     let mut s = Near {
         key: sizes::NONE,
         at: t,
     };
     let mut k = first;
     while k < end {
-        s = closer(s, key(t, k, ns, xs, ys, left), k, size);
-        k += 1;
+        let e = stop(k, end);
+        s = visit(t, k, e, s, ns, xs, ys, edges, left);
+        k = e;
     }
     s
 }
 
 // The nearest to row t of the other master's rows: A's are those before row split.
-pub fn partner(t: usize, split: usize, ns: &[u32], xs: &[i16], ys: &[i16], left: &[u32]) -> Near
+pub fn partner(
+    t: usize,
+    split: usize,
+    ns: &[u32],
+    xs: &[i16],
+    ys: &[i16],
+    edges: &[u16],
+    left: &[u32],
+) -> Near
     requires { ⌜ Board (now ns) (now xs) (now ys) split × (length (now left) ≡ length (now ns)) × (t < length (now ns)) ⌝ }
     ensures { λ r. ⌜ r .at < length (now (ns .entry)) ⌝ }
 {
     if t < split {
-        return search(t, split, ns.len(), ns, xs, ys, left);
+        return scan(t, split, ns.len(), ns, xs, ys, edges, left);
     }
-    search(t, 0, split, ns, xs, ys, left)
+    scan(t, 0, split, ns, xs, ys, edges, left)
 }

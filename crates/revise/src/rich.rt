@@ -37,6 +37,7 @@ fn enter(
     ns: &[u32],
     xs: &[i16],
     ys: &[i16],
+    edges: &[u16],
     left: &[u32],
     rich: &mut [u64],
 ) -> usize
@@ -47,7 +48,7 @@ fn enter(
     if n == sizes::RICH {
         return n;
     }
-    let s = partner(r, split, ns, xs, ys, left);
+    let s = partner(r, split, ns, xs, ys, edges, left);
     if s.key == sizes::NONE {
         return n;
     }
@@ -73,6 +74,7 @@ pub fn review(
     ns: &[u32],
     xs: &[i16],
     ys: &[i16],
+    edges: &[u16],
     was: &[u32],
     left: &[u32],
     rich: &mut [u64],
@@ -84,7 +86,7 @@ pub fn review(
     let i = find(r, n, ns.len(), rich);
     if was[r] < left[r] {
         if i == n {
-            return enter(r, n, split, ns, xs, ys, left, rich);
+            return enter(r, n, split, ns, xs, ys, edges, left, rich);
         }
         return n;
     }
@@ -102,6 +104,7 @@ pub fn renew(
     ns: &[u32],
     xs: &[i16],
     ys: &[i16],
+    edges: &[u16],
     left: &[u32],
     rich: &mut [u64],
 ) -> usize
@@ -111,7 +114,7 @@ pub fn renew(
 {
     let r = first(rich[i], ns.len());
     let m = dismiss(i, n, rich);
-    enter(r, m, split, ns, xs, ys, left, rich)
+    enter(r, m, split, ns, xs, ys, edges, left, rich)
 }
 
 // Whether the pair of place i comes before that of place k.

@@ -33,7 +33,7 @@ fn hint(places: &[u16], k: usize, from: usize, size: usize) -> usize
     0
 }
 
-fn wide(x: u16) -> usize
+pub fn wide(x: u16) -> usize
     ensures { λ r. ⌜ r ≡ x ⌝ }
 {
     x as usize
@@ -67,6 +67,7 @@ fn follow(
     ns: &[u32],
     xs: &[i16],
     ys: &[i16],
+    edges: &[u16],
     was: &mut [u32],
     left: &mut [u32],
     rich: &mut [u64],
@@ -89,11 +90,26 @@ fn follow(
     let m = lm[k];
     if gone(k, z, second, la, lb) {
         let o = other(i, j, second, ns.len());
-        return release(s, o, m, split, ns, xs, ys, was, left, rich);
+        return release(s, o, m, split, ns, xs, ys, edges, was, left, rich);
     }
     spend(i, m, was);
     spend(j, m, was);
-    link(s, i, j, d, split, ns, xs, ys, was, left, rich, news, km)
+    link(
+        s,
+        i,
+        j,
+        d,
+        split,
+        ns,
+        xs,
+        ys,
+        edges,
+        was,
+        left,
+        rich,
+        news,
+        km,
+    )
 }
 
 // The pair of place e: taken, or its first row looks for another where the second is used up.
@@ -104,6 +120,7 @@ fn grasp(
     ns: &[u32],
     xs: &[i16],
     ys: &[i16],
+    edges: &[u16],
     was: &[u32],
     left: &mut [u32],
     rich: &mut [u64],
@@ -120,13 +137,28 @@ fn grasp(
     let w = pairs::second(p, size);
     if left[w] == 0 {
         let mut t = s;
-        t.rich = rich::renew(e, s.rich, split, ns, xs, ys, left, rich);
+        t.rich = rich::renew(e, s.rich, split, ns, xs, ys, edges, left, rich);
         return t;
     }
     let d = join::nearest::distance(p);
     let i = pairs::light(r, w, size);
     let j = pairs::bold(r, w, size);
-    link(s, i, j, d, split, ns, xs, ys, was, left, rich, news, km)
+    link(
+        s,
+        i,
+        j,
+        d,
+        split,
+        ns,
+        xs,
+        ys,
+        edges,
+        was,
+        left,
+        rich,
+        news,
+        km,
+    )
 }
 
 // The place of the n richer rows' earliest pair; n where there is none or link k there comes first.
@@ -154,6 +186,7 @@ fn turn(
     ns: &[u32],
     xs: &[i16],
     ys: &[i16],
+    edges: &[u16],
     was: &mut [u32],
     left: &mut [u32],
     rich: &mut [u64],
@@ -174,7 +207,7 @@ fn turn(
     let n = s.rich;
     let e = choose(k, n, ns, rich, la, lb, ld);
     if e < n {
-        return grasp(s, e, split, ns, xs, ys, was, left, rich, news, km);
+        return grasp(s, e, split, ns, xs, ys, edges, was, left, rich, news, km);
     }
     let mut r = s;
     if k < la.len() {
@@ -188,6 +221,7 @@ fn turn(
             ns,
             xs,
             ys,
+            edges,
             was,
             left,
             rich,
@@ -214,6 +248,7 @@ pub fn all(
     ns: &[u32],
     xs: &[i16],
     ys: &[i16],
+    edges: &[u16],
     was: &mut [u32],
     left: &mut [u32],
     rich: &mut [u64],
@@ -244,6 +279,7 @@ pub fn all(
             ns,
             xs,
             ys,
+            edges,
             was,
             left,
             rich,

@@ -14,3 +14,11 @@ pub const WIDTH: u64 = 65536;
 
 // No key is as great.
 pub const NONE: u64 = 18446744073709551615;
+
+// Rows to a block, and what is kept of each: the rows at its four edges and the one with the least number.
+pub const BLOCK: usize = 32;
+
+pub const EDGES: usize = 5;
+
+// The edges of all blocks.
+pub const FRAMES: usize = 160;

@@ -8,10 +8,10 @@ use Rattle.revise.proofs.begin.Statement.{statement}
 use Rattle.revise.proofs.begin.Tie as tie
 
 abbrev Inv-loop : tie.InvT-loop
-Inv-loop z first end split ns xs ys was₀ left rich₀ k₀ was rich k = (length was ≡ length was₀) × (length rich ≡ length rich₀)
+Inv-loop z first end split ns xs ys edges was₀ left rich₀ k₀ was rich k = (length was ≡ length was₀) × (length rich ≡ length rich₀)
 
 abbrev μ-loop : tie.MeasureT-loop
-μ-loop z first end split ns xs ys was₀ left rich₀ k₀ was rich k = end - k
+μ-loop z first end split ns xs ys edges was₀ left rich₀ k₀ was rich k = end - k
 
 loop-holds : tie.Need-loop-holds Inv-loop μ-loop
 loop-holds c = search needs
@@ -29,7 +29,7 @@ slice-write-was : tie.Need-slice-write-was Inv-loop μ-loop
 slice-write-was c = search needs
 
 review-requires : tie.Need-review-requires Inv-loop μ-loop
-review-requires c κs = let p = c .before .before .before .before .before .before .before .before .before .before .pre in let i = c .before .before .before .before .before .loop .inv in ((p .0, simp length-set (omega (arith, i, p)), p .2, omega (arith, p .4)), (omega (arith, i .1, p .3), omega arith))
+review-requires c κs = let p = c .before .before .before .before .before .before .before .before .before .before .before .pre in let i = c .before .before .before .before .before .loop .inv in ((p .0, simp length-set (omega (arith, i, p)), p .2, omega (arith, p .4)), (omega (arith, i .1, p .3), omega arith))
 
 same-length : tie.Need-same-length Inv-loop μ-loop
 same-length c = search needs

@@ -8,7 +8,7 @@ spend-requires : tie.Need-spend-requires
 spend-requires c κs = search needs
 
 review-requires : tie.Need-review-requires
-review-requires c κs = let p = c .before .before .before .before .before .before .before .before .before .before .pre in ((p .0 .0, c .before .before .before .before .spend .kept .1 .1 .0 ∙ p .0 .1, p .0 .2, p .1), (p .0 .3, p .0 .4 .rich))
+review-requires c κs = let p = c .before .before .before .before .before .before .before .before .before .before .before .pre in ((p .0 .0, c .before .before .before .before .spend .kept .1 .1 .0 ∙ p .0 .1, p .0 .2, p .1), (p .0 .3, p .0 .4 .rich))
 
 same-length : tie.Need-same-length
 same-length c = search needs

@@ -8,10 +8,10 @@ use Rattle.revise.proofs.nearest.search.Statement.{statement}
 use Rattle.revise.proofs.nearest.search.Tie as tie
 
 abbrev Inv-loop : tie.InvT-loop
-Inv-loop t first end ns xs ys left size s₀ k₀ s k = (s .at < size) × (size ≡ length ns)
+Inv-loop t first end ns xs ys left size r₀ k₀ r k = (r .at < size) × (size ≡ length ns)
 
 abbrev μ-loop : tie.MeasureT-loop
-μ-loop t first end ns xs ys left size s₀ k₀ s k = end - k
+μ-loop t first end ns xs ys left size r₀ k₀ r k = end - k
 
 loop-holds : tie.Need-loop-holds Inv-loop μ-loop
 loop-holds c = search needs

@@ -7,10 +7,10 @@ use Rattle.revise.proofs.run.all.Statement.{statement}
 use Rattle.revise.proofs.run.all.Tie as tie
 
 abbrev Inv-loop : tie.InvT-loop
-Inv-loop z second split ns xs ys was₀ left₀ rich₀ la lb ld lm ia ib news₀ km₀ s₀ k₀ was left rich news km s k = Desk ns was left rich news km × Fair s
+Inv-loop z second split ns xs ys edges was₀ left₀ rich₀ la lb ld lm ia ib news₀ km₀ s₀ k₀ was left rich news km s k = Desk ns was left rich news km × Fair s
 
 abbrev μ-loop : tie.MeasureT-loop
-μ-loop z second split ns xs ys was₀ left₀ rich₀ la lb ld lm ia ib news₀ km₀ s₀ k₀ was left rich news km s k = turns - k
+μ-loop z second split ns xs ys edges was₀ left₀ rich₀ la lb ld lm ia ib news₀ km₀ s₀ k₀ was left rich news km s k = turns - k
 
 loop-holds : tie.Need-loop-holds Inv-loop μ-loop
 loop-holds c = search needs
@@ -34,7 +34,7 @@ returns : tie.Need-returns Inv-loop μ-loop
 returns c = search needs
 
 turn-requires : tie.Need-turn-requires Inv-loop μ-loop
-turn-requires c κs = let p = c .before .before .before .before .before .before .before .before .before .before .before .before .before .before .before .before .before .before .before .before .pre in let i = c .before .before .before .before .before .before .before .loop .inv in ((p .0 .0, i .0, i .1), p .1)
+turn-requires c κs = let p = c .before .before .before .before .before .before .before .before .before .before .before .before .before .before .before .before .before .before .before .before .before .pre in let i = c .before .before .before .before .before .before .before .loop .inv in ((p .0 .0, i .0, i .1), p .1)
 
 add-k : tie.Need-add-k Inv-loop μ-loop
 add-k c = search needs

@@ -12,13 +12,13 @@ hint-requires-2 : tie.Need-hint-requires-2
 hint-requires-2 c κs = search needs
 
 mul-d : tie.Need-mul-d
-mul-d c = let s = c .before .before .before .before .before .before .before .before .before .before .before .before .before .before in omega (arith, s .pre .1, s .good)
+mul-d c = let s = c .before .before .before .before .before .before .before .before .before .before .before .before .before .before .before in omega (arith, s .pre .1, s .good)
 
 shared-slice-read-d : tie.Need-shared-slice-read-d
 shared-slice-read-d c = search needs
 
 mul-m : tie.Need-mul-m
-mul-m c = let s = c .before .before .before .before .before .before .before .before .before .before .before .before .before .before .before in omega (arith, s .pre .1, s .good)
+mul-m c = let s = c .before .before .before .before .before .before .before .before .before .before .before .before .before .before .before .before in omega (arith, s .pre .1, s .good)
 
 shared-slice-read-m : tie.Need-shared-slice-read-m
 shared-slice-read-m c = search needs
@@ -30,7 +30,7 @@ other-requires : tie.Need-other-requires
 other-requires c κs = search needs
 
 release-requires : tie.Need-release-requires
-release-requires c κs = let p = c .before .before .before .before .before .before .before .before .before .before .before .before .before .before .before .before .before .before .before .before .before .before .pre in let d = p .0 .1 in ((p .0 .0, d .of-was, d .of-left, d .of-rich, p .0 .2), c .before .before .before .other .ensures)
+release-requires c κs = let p = c .before .before .before .before .before .before .before .before .before .before .before .before .before .before .before .before .before .before .before .before .before .before .before .pre in let d = p .0 .1 in ((p .0 .0, d .of-was, d .of-left, d .of-rich, p .0 .2), c .before .before .before .other .ensures)
 
 same-length : tie.Need-same-length
 same-length c = search needs
@@ -48,10 +48,10 @@ spend-requires : tie.Need-spend-requires
 spend-requires c κs = search needs
 
 spend-requires-2 : tie.Need-spend-requires-2
-spend-requires-2 c κs = omega (arith, c .before .before .before .spend .kept, c .before .before .before .before .before .before .before .before .before .hint2 .ensures, c .before .before .before .before .before .before .before .before .before .before .before .before .before .before .before .before .before .before .before .before .before .before .before .pre .0 .1 .of-was)
+spend-requires-2 c κs = omega (arith, c .before .before .before .spend .kept, c .before .before .before .before .before .before .before .before .before .hint2 .ensures, c .before .before .before .before .before .before .before .before .before .before .before .before .before .before .before .before .before .before .before .before .before .before .before .before .pre .0 .1 .of-was)
 
 link-requires : tie.Need-link-requires
-link-requires c κs = let p = c .before .before .before .before .before .before .before .before .before .before .before .before .before .before .before .before .before .before .before .before .before .before .before .before .before .before .before .before .before .before .before .pre in let d = p .0 .1 in ((p .0 .0, record { of-was = c .before .before .before .before .before .before .before .spend2 .kept .1 .1 .0 ∙ c .before .before .before .before .before .before .before .before .before .before .before .spend .kept .1 .1 .0 ∙ d .of-was; of-left = d .of-left; of-rich = d .of-rich; of-news = d .of-news; of-km = d .of-km }, p .0 .2), (c .before .before .before .before .before .before .before .before .before .before .before .before .before .before .before .before .before .before .hint .ensures, c .before .before .before .before .before .before .before .before .before .before .before .before .before .before .before .before .before .hint2 .ensures))
+link-requires c κs = let p = c .before .before .before .before .before .before .before .before .before .before .before .before .before .before .before .before .before .before .before .before .before .before .before .before .before .before .before .before .before .before .before .before .pre in let d = p .0 .1 in ((p .0 .0, record { of-was = c .before .before .before .before .before .before .before .spend2 .kept .1 .1 .0 ∙ c .before .before .before .before .before .before .before .before .before .before .before .spend .kept .1 .1 .0 ∙ d .of-was; of-left = d .of-left; of-rich = d .of-rich; of-news = d .of-news; of-km = d .of-km }, p .0 .2), (c .before .before .before .before .before .before .before .before .before .before .before .before .before .before .before .before .before .before .hint .ensures, c .before .before .before .before .before .before .before .before .before .before .before .before .before .before .before .before .before .hint2 .ensures))
 
 same-length-4 : tie.Need-same-length-4
 same-length-4 c = search needs

@@ -29,10 +29,10 @@ returns : tie.Need-returns
 returns c = search needs
 
 add-r : tie.Need-add-r
-add-r c = omega (arith, c .before .before .before .before .before .before .before .before .before .before .before .before .before .before .before .before .good)
+add-r c = omega (arith, c .before .before .before .before .before .before .before .before .before .before .before .before .before .before .before .before .before .good)
 
 follow-requires : tie.Need-follow-requires
-follow-requires c κs = let p = c .before .before .before .before .before .before .before .before .before .before .before .before .before .before .before .before .before .before .before .before .before .pre in ((p .0 .0, p .0 .1, record { rich = p .0 .2 .rich; links = p .0 .2 .links }), (p .1, c .before .before .before .before .before .if2 .taken))
+follow-requires c κs = let p = c .before .before .before .before .before .before .before .before .before .before .before .before .before .before .before .before .before .before .before .before .before .before .pre in ((p .0 .0, p .0 .1, record { rich = p .0 .2 .rich; links = p .0 .2 .links }), (p .1, c .before .before .before .before .before .if2 .taken))
 
 same-length-6 : tie.Need-same-length-6
 same-length-6 c = search needs
