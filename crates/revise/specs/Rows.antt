@@ -7,6 +7,7 @@ use lib.ListN.{length, getD}
 use Rattle.matching.specs.Definitions.Columns.{Inside}
 use Rattle.join.specs.Sizes.{tableRows, linkRows}
 use Rattle.join.specs.Rows.{Columns}
+use Rattle.revise.specs.declared.blocks.Frame.{Frame}
 use Rattle.revise.specs.declared.run.Run.{Run}
 use Rattle.revise.specs.Sizes.{richRows}
 
@@ -29,6 +30,14 @@ pub record Desk (ns was left rich news km : List ℕ) : Type 0 where
 pub record Fair (s : Run) : Type 0 where
   pub rich : s .rich ≤ richRows
   pub links : s .links ≤ linkRows
+
+-- A frame's rows are below end.
+pub record Within (f : Frame) (end : ℕ) : Type 0 where
+  pub west : f .west < end
+  pub east : f .east < end
+  pub south : f .south < end
+  pub north : f .north < end
+  pub least : f .least < end
 
 -- The first n positions of a column stand in another from place `at` on; what stood before them is as it was.
 pub record Copied (from : List ℤ) (at n : ℕ) (old new : List ℤ) : Type 0 where

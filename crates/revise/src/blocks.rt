@@ -1,4 +1,4 @@
-// Boxes around 32 rows each, by the rows that touch their edges: how near a row of a block can be to a row. Nothing is promised of what stands in a column of edges.
+// Boxes around 32 rows each, by the rows that touch their edges: how near a row of a block with something left can be to a row. Nothing is promised of what stands in a column of edges.
 use crate::run::wide;
 use crate::sizes;
 use join::nearest::pack;
@@ -7,8 +7,19 @@ ghost use Prim.Native.Nat.{_<_, _≤_};
 ghost use lib.ListN.{length};
 ghost use Rattle.join.specs.Sizes.{tableRows};
 ghost use Rattle.join.specs.Rows.{Columns};
+ghost use Rattle.revise.specs.Rows.{Within};
 
-// Of two rows the one with the lesser number.
+// The rows at the four edges of a box and the one with the least number, if there is a row in it.
+struct Frame {
+    some: bool,
+    west: usize,
+    east: usize,
+    south: usize,
+    north: usize,
+    least: usize,
+}
+
+// Of two rows the one with the lesser number,
 fn lower(ns: &[u32], i: usize, k: usize, end: usize) -> usize
     requires { ⌜ (i < end) × (k < end) × (end ≤ length (now ns)) ⌝ }
     ensures { λ r. ⌜ r < end ⌝ }
@@ -19,21 +30,91 @@ fn lower(ns: &[u32], i: usize, k: usize, end: usize) -> usize
     i
 }
 
-// Of the rows from first to end the one with the least number.
-fn lowest(ns: &[u32], first: usize, end: usize) -> usize
-    requires { ⌜ (first < end) × (end ≤ length (now ns)) ⌝ }
+// with the lesser position,
+fn lesser(xs: &[i16], i: usize, k: usize, end: usize) -> usize
+    requires { ⌜ (i < end) × (k < end) × (end ≤ length (now xs)) ⌝ }
     ensures { λ r. ⌜ r < end ⌝ }
 {
-    let mut at = first;
-    let mut k = first + 1;
-    while k < end {
-        at = lower(ns, at, k, end);
-        k += 1;
+    if xs[k] < xs[i] {
+        return k;
     }
-    at
+    i
 }
 
-// Writes a row at a place of the column, if there is one.
+// and with the greater one.
+fn greater(xs: &[i16], i: usize, k: usize, end: usize) -> usize
+    requires { ⌜ (i < end) × (k < end) × (end ≤ length (now xs)) ⌝ }
+    ensures { λ r. ⌜ r < end ⌝ }
+{
+    if xs[i] < xs[k] {
+        return k;
+    }
+    i
+}
+
+// The frame of the rows of f and of row k, if something is left of that.
+fn grow(f: Frame, k: usize, end: usize, ns: &[u32], xs: &[i16], ys: &[i16], left: &[u32]) -> Frame
+    requires { ⌜ Columns (now ns) (now xs) (now ys) × (length (now left) ≡ length (now ns)) × Within f end × (k < end) × (end ≤ length (now ns)) ⌝ }
+    ensures { λ r. ⌜ Within r end ⌝ }
+{
+    if left[k] == 0 {
+        return f;
+    }
+    if !f.some {
+        return Frame {
+            some: true,
+            west: k,
+            east: k,
+            south: k,
+            north: k,
+            least: k,
+        };
+    }
+    let west = lesser(xs, f.west, k, end);
+    let east = greater(xs, f.east, k, end);
+    let south = lesser(ys, f.south, k, end);
+    let north = greater(ys, f.north, k, end);
+    let least = lower(ns, f.least, k, end);
+    Frame {
+        some: true,
+        west: west,
+        east: east,
+        south: south,
+        north: north,
+        least: least,
+    }
+}
+
+// The frame of the rows from first to end that have something left.
+fn around(first: usize, end: usize, ns: &[u32], xs: &[i16], ys: &[i16], left: &[u32]) -> Frame
+    requires { ⌜ Columns (now ns) (now xs) (now ys) × (length (now left) ≡ length (now ns)) × (first < end) × (end ≤ length (now ns)) ⌝ }
+    ensures { λ r. ⌜ Within r end ⌝ }
+{
+    let mut f = Frame {
+        some: false,
+        west: first,
+        east: first,
+        south: first,
+        north: first,
+        least: first,
+    };
+    let mut k = first;
+    while k < end {
+        f = grow(f, k, end, ns, xs, ys, left);
+        k += 1;
+    }
+    f
+}
+
+// Where the column has what is kept of the block of row k.
+fn place(k: usize) -> usize
+    requires { ⌜ k < tableRows ⌝ }
+    ensures { λ r. ⌜ r < tableRows ⌝ }
+{
+    sizes::EDGES * (k / sizes::BLOCK)
+}
+
+// Writes a row or a state at a place of the column, if there is one.
 fn mark(at: usize, r: usize, edges: &mut [u16])
     requires { ⌜ r < tableRows ⌝ }
 {
@@ -42,21 +123,27 @@ fn mark(at: usize, r: usize, edges: &mut [u16])
     }
 }
 
-// Writes the edges of block b, which has the rows from first to end.
-fn frame(b: usize, first: usize, end: usize, ns: &[u32], xs: &[i16], ys: &[i16], edges: &mut [u16])
-    requires { ⌜ Columns (now ns) (now xs) (now ys) × (first < end) × (end ≤ length (now ns)) × (length (now ns) ≤ tableRows) × (b < tableRows) ⌝ }
+// Writes a frame at a place of the column.
+fn keep(at: usize, f: Frame, edges: &mut [u16])
+    requires { ⌜ (at < tableRows) × Within f tableRows ⌝ }
 {
-    let west = bounds::extreme(false, xs, first, end);
-    let east = bounds::extreme(true, xs, first, end);
-    let south = bounds::extreme(false, ys, first, end);
-    let north = bounds::extreme(true, ys, first, end);
-    let least = lowest(ns, first, end);
-    let at = sizes::EDGES * b;
-    mark(at, west, edges);
-    mark(at + 1, east, edges);
-    mark(at + 2, south, edges);
-    mark(at + 3, north, edges);
-    mark(at + 4, least, edges);
+    if !f.some {
+        mark(at + sizes::STATE, sizes::EMPTY, edges);
+        return;
+    }
+    mark(at, f.west, edges);
+    mark(at + 1, f.east, edges);
+    mark(at + 2, f.south, edges);
+    mark(at + 3, f.north, edges);
+    mark(at + 4, f.least, edges);
+    mark(at + sizes::STATE, sizes::CLEAN, edges);
+}
+
+// A row of the block of row k is used up: its box is to be made anew.
+pub fn invalidate(k: usize, edges: &mut [u16])
+    requires { ⌜ k < tableRows ⌝ }
+{
+    mark(place(k) + sizes::STATE, sizes::STALE, edges);
 }
 
 // Where the block of row k ends, at the latest at end.
@@ -68,19 +155,28 @@ pub fn stop(k: usize, end: usize) -> usize
     if r < end { r } else { end }
 }
 
-// Writes the edges of all blocks.
-pub fn survey(ns: &[u32], xs: &[i16], ys: &[i16], edges: &mut [u16])
-    requires { ⌜ Columns (now ns) (now xs) (now ys) × (length (now ns) ≤ tableRows) ⌝ }
+// Makes the box of the whole block of row k anew, around its rows that have something left: rows of both masters, as either's searches use it.
+fn refresh(k: usize, ns: &[u32], xs: &[i16], ys: &[i16], edges: &mut [u16], left: &[u32])
+    requires { ⌜ Columns (now ns) (now xs) (now ys) × (length (now left) ≡ length (now ns)) × (length (now ns) ≤ tableRows) × (k < length (now ns)) ⌝ }
+{
+    let first = k / sizes::BLOCK * sizes::BLOCK;
+    let end = stop(k, ns.len());
+    let f = around(first, end, ns, xs, ys, left);
+    keep(place(k), f, edges);
+}
+
+// Makes the boxes of all blocks.
+pub fn survey(ns: &[u32], xs: &[i16], ys: &[i16], edges: &mut [u16], left: &[u32])
+    requires { ⌜ Columns (now ns) (now xs) (now ys) × (length (now left) ≡ length (now ns)) × (length (now ns) ≤ tableRows) ⌝ }
 {
     let mut k = 0;
     while k < ns.len() {
-        let e = stop(k, ns.len());
-        frame(k / sizes::BLOCK, k, e, ns, xs, ys, edges);
-        k = e;
+        refresh(k, ns, xs, ys, edges, left);
+        k = stop(k, ns.len());
     }
 }
 
-// A row out of the column; nothing is promised of it but that there is such a row.
+// A row or a state out of the column; nothing is promised of it but that there is such a one.
 fn edge(at: usize, size: usize, edges: &[u16]) -> usize
     requires { ⌜ 0 < size ⌝ }
     ensures { λ r. ⌜ r < size ⌝ }
@@ -94,12 +190,19 @@ fn edge(at: usize, size: usize, edges: &[u16]) -> usize
     0
 }
 
-// A key that no row of the block of row k is below, as seen from row t.
-pub fn bound(t: usize, k: usize, ns: &[u32], xs: &[i16], ys: &[i16], edges: &[u16]) -> u64
+// The state of the block of row k.
+fn state(k: usize, edges: &[u16]) -> usize
+    requires { ⌜ k < tableRows ⌝ }
+{
+    edge(place(k) + sizes::STATE, sizes::STATES, edges)
+}
+
+// A key that no row in the box of row k's block is below, as seen from row t.
+fn bound(t: usize, k: usize, ns: &[u32], xs: &[i16], ys: &[i16], edges: &[u16]) -> u64
     requires { ⌜ Columns (now ns) (now xs) (now ys) × (length (now ns) ≤ tableRows) × (t < length (now ns)) × (k < length (now ns)) ⌝ }
 {
     let size = ns.len();
-    let at = sizes::EDGES * (k / sizes::BLOCK);
+    let at = place(k);
     let west = edge(at, size, edges);
     let east = edge(at + 1, size, edges);
     let south = edge(at + 2, size, edges);
@@ -107,4 +210,37 @@ pub fn bound(t: usize, k: usize, ns: &[u32], xs: &[i16], ys: &[i16], edges: &[u1
     let least = edge(at + 4, size, edges);
     let d = bounds::clearance(xs[t], ys[t], xs[west], xs[east], ys[south], ys[north]);
     pack(d, ns[least])
+}
+
+// Whether no row of the block of row k that has something left can have a key below `key`, as seen from row t.
+fn far(t: usize, k: usize, key: u64, ns: &[u32], xs: &[i16], ys: &[i16], edges: &[u16]) -> bool
+    requires { ⌜ Columns (now ns) (now xs) (now ys) × (length (now ns) ≤ tableRows) × (t < length (now ns)) × (k < length (now ns)) ⌝ }
+{
+    if state(k, edges) == sizes::EMPTY {
+        return true;
+    }
+    bound(t, k, ns, xs, ys, edges) >= key
+}
+
+// The same, asked again of a box that is made anew where it may have become smaller.
+pub fn skip(
+    t: usize,
+    k: usize,
+    key: u64,
+    ns: &[u32],
+    xs: &[i16],
+    ys: &[i16],
+    edges: &mut [u16],
+    left: &[u32],
+) -> bool
+    requires { ⌜ Columns (now ns) (now xs) (now ys) × (length (now left) ≡ length (now ns)) × (length (now ns) ≤ tableRows) × (t < length (now ns)) × (k < length (now ns)) ⌝ }
+{
+    if far(t, k, key, ns, xs, ys, edges) {
+        return true;
+    }
+    if state(k, edges) != sizes::STALE {
+        return false;
+    }
+    refresh(k, ns, xs, ys, edges, left);
+    far(t, k, key, ns, xs, ys, edges)
 }

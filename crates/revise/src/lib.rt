@@ -26,7 +26,7 @@ fn begin(
     ns: &[u32],
     xs: &[i16],
     ys: &[i16],
-    edges: &[u16],
+    edges: &mut [u16],
     was: &mut [u32],
     left: &[u32],
     rich: &mut [u64],
@@ -53,7 +53,7 @@ fn entrance(
     ns: &[u32],
     xs: &[i16],
     ys: &[i16],
-    edges: &[u16],
+    edges: &mut [u16],
     was: &mut [u32],
     left: &[u32],
     rich: &mut [u64],
@@ -107,10 +107,21 @@ fn follow(
     ensures { λ r. ⌜ r ≤ linkRows ⌝ }
 {
     let mut edges = [0u16; sizes::FRAMES];
-    blocks::survey(ns, xs, ys, &mut edges);
+    blocks::survey(ns, xs, ys, &mut edges, left);
     let mut rich = [0u64; sizes::RICH];
     let mut news = [0u64; sizes::LINKS];
-    let n = entrance(z, second, split, ns, xs, ys, &edges, was, left, &mut rich);
+    let n = entrance(
+        z,
+        second,
+        split,
+        ns,
+        xs,
+        ys,
+        &mut edges,
+        was,
+        left,
+        &mut rich,
+    );
     let s = run::Run {
         row: 0,
         rich: n,
@@ -125,7 +136,7 @@ fn follow(
         ns,
         xs,
         ys,
-        &edges,
+        &mut edges,
         was,
         left,
         &mut rich,

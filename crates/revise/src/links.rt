@@ -1,4 +1,5 @@
 // What a link takes of its rows, and what that changes of the rows that are richer.
+use crate::blocks;
 use crate::pairs;
 use crate::rich;
 use crate::run::Run;
@@ -22,15 +23,28 @@ pub fn spend(r: usize, m: u32, left: &mut [u32])
     left[r] = x - m;
 }
 
+// Takes m of what row r has left; where that uses it up, the box of its block is to be made anew.
+fn draw(r: usize, m: u32, edges: &mut [u16], left: &mut [u32])
+    requires { ⌜ (r < length (now left)) × (length (now left) ≤ tableRows) ⌝ }
+{
+    spend(r, m, left);
+    if left[r] == 0 {
+        blocks::invalidate(r, edges);
+    }
+}
+
 // Takes of rows i and j the lesser of what they have left, and gives it.
-fn take(i: usize, j: usize, left: &mut [u32]) -> u32
-    requires { ⌜ (i < length (now left)) × (j < length (now left)) ⌝ }
+fn take(i: usize, j: usize, edges: &mut [u16], left: &mut [u32]) -> u32
+    requires { ⌜ (i < length (now left)) × (j < length (now left)) × (length (now left) ≤ tableRows) ⌝ }
 {
     let x = left[i];
     let y = left[j];
     let m = if x < y { x } else { y };
-    spend(i, m, left);
-    spend(j, m, left);
+    if m == 0 {
+        return m;
+    }
+    draw(i, m, edges, left);
+    draw(j, m, edges, left);
     m
 }
 
@@ -60,7 +74,7 @@ pub fn link(
     ns: &[u32],
     xs: &[i16],
     ys: &[i16],
-    edges: &[u16],
+    edges: &mut [u16],
     was: &[u32],
     left: &mut [u32],
     rich: &mut [u64],
@@ -71,7 +85,7 @@ pub fn link(
     requires { ⌜ (i < length (now ns)) × (j < length (now ns)) ⌝ }
     ensures { λ r. ⌜ Fair r ⌝ }
 {
-    let m = take(i, j, left);
+    let m = take(i, j, edges, left);
     let mut r = s;
     r.links = write(s.links, i, j, d, m, news, km);
     let n = rich::review(i, s.rich, split, ns, xs, ys, edges, was, left, rich);
@@ -88,7 +102,7 @@ pub fn release(
     ns: &[u32],
     xs: &[i16],
     ys: &[i16],
-    edges: &[u16],
+    edges: &mut [u16],
     was: &mut [u32],
     left: &[u32],
     rich: &mut [u64],

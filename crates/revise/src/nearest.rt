@@ -1,6 +1,5 @@
 // The row nearest to a row among those of the other master that have something left.
-use crate::blocks::bound;
-use crate::blocks::stop;
+use crate::blocks;
 use crate::sizes;
 use join::nearest::Near;
 use join::nearest::apart;
@@ -66,14 +65,14 @@ fn visit(
     ns: &[u32],
     xs: &[i16],
     ys: &[i16],
-    edges: &[u16],
+    edges: &mut [u16],
     left: &[u32],
 ) -> Near
     requires { ⌜ Columns (now ns) (now xs) (now ys) × (length (now left) ≡ length (now ns)) × (t < length (now ns)) × (end ≤ length (now ns)) × (s .at < length (now ns)) ⌝ }
     requires { ⌜ (first < end) × (length (now ns) ≤ tableRows) ⌝ }
     ensures { λ r. ⌜ r .at < length (now (ns .entry)) ⌝ }
 {
-    if bound(t, first, ns, xs, ys, edges) >= s.key {
+    if blocks::skip(t, first, s.key, ns, xs, ys, edges, left) {
         return s;
     }
     search(t, first, end, s, ns, xs, ys, left)
@@ -87,7 +86,7 @@ fn scan(
     ns: &[u32],
     xs: &[i16],
     ys: &[i16],
-    edges: &[u16],
+    edges: &mut [u16],
     left: &[u32],
 ) -> Near
     requires { ⌜ Columns (now ns) (now xs) (now ys) × (length (now left) ≡ length (now ns)) × (t < length (now ns)) × (end ≤ length (now ns)) × (length (now ns) ≤ tableRows) ⌝ }
@@ -99,7 +98,7 @@ fn scan(
     };
     let mut k = first;
     while k < end {
-        let e = stop(k, end);
+        let e = blocks::stop(k, end);
         s = visit(t, k, e, s, ns, xs, ys, edges, left);
         k = e;
     }
@@ -113,7 +112,7 @@ pub fn partner(
     ns: &[u32],
     xs: &[i16],
     ys: &[i16],
-    edges: &[u16],
+    edges: &mut [u16],
     left: &[u32],
 ) -> Near
     requires { ⌜ Board (now ns) (now xs) (now ys) split × (length (now left) ≡ length (now ns)) × (t < length (now ns)) ⌝ }

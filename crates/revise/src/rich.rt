@@ -37,7 +37,7 @@ fn enter(
     ns: &[u32],
     xs: &[i16],
     ys: &[i16],
-    edges: &[u16],
+    edges: &mut [u16],
     left: &[u32],
     rich: &mut [u64],
 ) -> usize
@@ -74,7 +74,7 @@ pub fn review(
     ns: &[u32],
     xs: &[i16],
     ys: &[i16],
-    edges: &[u16],
+    edges: &mut [u16],
     was: &[u32],
     left: &[u32],
     rich: &mut [u64],
@@ -104,7 +104,7 @@ pub fn renew(
     ns: &[u32],
     xs: &[i16],
     ys: &[i16],
-    edges: &[u16],
+    edges: &mut [u16],
     left: &[u32],
     rich: &mut [u64],
 ) -> usize

@@ -15,10 +15,21 @@ pub const WIDTH: u64 = 65536;
 // No key is as great.
 pub const NONE: u64 = 18446744073709551615;
 
-// Rows to a block, and what is kept of each: the rows at its four edges and the one with the least number.
+// Rows to a block, and what is kept of each: the rows at its four edges, the one with the least number, and last its state.
 pub const BLOCK: usize = 32;
 
-pub const EDGES: usize = 5;
+pub const EDGES: usize = 6;
 
-// The edges of all blocks.
-pub const FRAMES: usize = 160;
+pub const STATE: usize = 5;
+
+// What is kept of all blocks.
+pub const FRAMES: usize = 192;
+
+// The states of a block: its box is around the rows that have something left; a row of it was used up since; nothing is left in it.
+pub const CLEAN: usize = 0;
+
+pub const STALE: usize = 1;
+
+pub const EMPTY: usize = 2;
+
+pub const STATES: usize = 3;

@@ -8,10 +8,10 @@ use Rattle.revise.proofs.begin.Statement.{statement}
 use Rattle.revise.proofs.begin.Tie as tie
 
 abbrev Inv-loop : tie.InvT-loop
-Inv-loop z first end split ns xs ys edges was₀ left rich₀ k₀ was rich k = (length was ≡ length was₀) × (length rich ≡ length rich₀)
+Inv-loop z first end split ns xs ys edges₀ was₀ left rich₀ k₀ edges was rich k = (length edges ≡ length edges₀) × (length was ≡ length was₀) × (length rich ≡ length rich₀)
 
 abbrev μ-loop : tie.MeasureT-loop
-μ-loop z first end split ns xs ys edges was₀ left rich₀ k₀ was rich k = end - k
+μ-loop z first end split ns xs ys edges₀ was₀ left rich₀ k₀ edges was rich k = end - k
 
 loop-holds : tie.Need-loop-holds Inv-loop μ-loop
 loop-holds c = search needs
@@ -29,13 +29,16 @@ slice-write-was : tie.Need-slice-write-was Inv-loop μ-loop
 slice-write-was c = search needs
 
 review-requires : tie.Need-review-requires Inv-loop μ-loop
-review-requires c κs = let p = c .before .before .before .before .before .before .before .before .before .before .before .pre in let i = c .before .before .before .before .before .loop .inv in ((p .0, simp length-set (omega (arith, i, p)), p .2, omega (arith, p .4)), (omega (arith, i .1, p .3), omega arith))
+review-requires c κs = let p = c .before .before .before .before .before .before .before .before .before .before .before .before .pre in let i = c .before .before .before .before .before .before .loop .inv in ((p .0, simp length-set (omega (arith, i, p)), p .2, omega (arith, p .4)), (omega (arith, i .2, p .3), omega arith))
 
 same-length : tie.Need-same-length Inv-loop μ-loop
 same-length c = search needs
 
 same-length-2 : tie.Need-same-length-2 Inv-loop μ-loop
 same-length-2 c = search needs
+
+same-length-3 : tie.Need-same-length-3 Inv-loop μ-loop
+same-length-3 c = search needs
 
 returns : tie.Need-returns Inv-loop μ-loop
 returns c = search needs
@@ -49,11 +52,14 @@ loop-less c = search needs
 loop-again : tie.Need-loop-again Inv-loop μ-loop
 loop-again c = search needs
 
-same-length-3 : tie.Need-same-length-3 Inv-loop μ-loop
-same-length-3 c = search needs
-
 same-length-4 : tie.Need-same-length-4 Inv-loop μ-loop
 same-length-4 c = search needs
+
+same-length-5 : tie.Need-same-length-5 Inv-loop μ-loop
+same-length-5 c = search needs
+
+same-length-6 : tie.Need-same-length-6 Inv-loop μ-loop
+same-length-6 c = search needs
 
 returns-2 : tie.Need-returns-2 Inv-loop μ-loop
 returns-2 c = search needs
@@ -72,10 +78,12 @@ begin-spec =
     review-requires
     same-length
     same-length-2
+    same-length-3
     returns
     add-k
     loop-less
     loop-again
-    same-length-3
     same-length-4
+    same-length-5
+    same-length-6
     returns-2)

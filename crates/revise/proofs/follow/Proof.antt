@@ -30,13 +30,13 @@ slice-aggregate-all-3 : tie.Need-slice-aggregate-all-3
 slice-aggregate-all-3 c = search needs
 
 all-requires : tie.Need-all-requires
-all-requires c κs = let p = c .before .before .before .before .before .before .before .before .before .before .before .before .before .before .before .before .before .before .before .before .before .before .before .before .before .before .before .before .before .before .before .before .pre in let e = c .before .before .before .before .before .before .before .before .before .entrance in ((p .0 .0, record { of-was = e .kept .1 .1 .1 .1 .1 .1 .1 .0 ∙ p .0 .1; of-left = p .0 .2; of-rich = e .kept .1 .1 .1 .1 .1 .1 .1 .1 .1 .0; of-news = refl; of-km = p .1 .3 }, record { rich = e .ensures; links = omega arith }), p .0 .3)
+all-requires c κs = let p = c .before .before .before .before .before .before .before .before .before .before .before .before .before .before .before .before .before .before .before .before .before .before .before .before .before .before .before .before .before .before .before .before .before .before .pre in let e = c .before .before .before .before .before .before .before .before .before .before .entrance in ((p .0 .0, record { of-was = e .kept .1 .1 .1 .1 .1 .1 .1 .0 ∙ p .0 .1; of-left = p .0 .2; of-rich = e .kept .1 .1 .1 .1 .1 .1 .1 .1 .1 .0; of-news = refl; of-km = p .1 .3 }, record { rich = e .ensures; links = omega arith }), p .0 .3)
 
 slice-aggregate-spell : tie.Need-slice-aggregate-spell
 slice-aggregate-spell c = search needs
 
 spell-requires : tie.Need-spell-requires
-spell-requires c κs = let p = c .before .before .before .before .before .before .before .before .before .before .before .before .before .before .before .before .before .before .before .before .before .before .before .before .before .before .before .before .before .before .before .before .before .before .before .before .before .before .before .before .before .before .before .before .before .before .before .pre in let a = c .before .before .before .before .before .before .before .before .before .before .before .before .before .before .all in ((a .ensures, a .kept .1 .1 .1 .1 .1 .1 .1 .1 .1 .1 .1 .1 .1 .1 .1 .1 .1 .0, p .0 .0 .some, p .0 .0 .most), (p .1 .0, p .1 .1, p .1 .2, p .1 .4, p .1 .5))
+spell-requires c κs = let p = c .before .before .before .before .before .before .before .before .before .before .before .before .before .before .before .before .before .before .before .before .before .before .before .before .before .before .before .before .before .before .before .before .before .before .before .before .before .before .before .before .before .before .before .before .before .before .before .before .before .before .pre in let a = c .before .before .before .before .before .before .before .before .before .before .before .before .before .before .before .all in ((a .ensures, a .kept .1 .1 .1 .1 .1 .1 .1 .1 .1 .1 .1 .1 .1 .1 .1 .1 .1 .0, p .0 .0 .some, p .0 .0 .most), (p .1 .0, p .1 .1, p .1 .2, p .1 .4, p .1 .5))
 
 same-length : tie.Need-same-length
 same-length c = search needs

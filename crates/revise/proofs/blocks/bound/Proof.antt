@@ -7,8 +7,8 @@ use borrow.Author.Needs.{needs}
 use Rattle.revise.proofs.blocks.bound.Statement.{statement}
 use Rattle.revise.proofs.blocks.bound.Tie as tie
 
-mul-at : tie.Need-mul-at
-mul-at c = search needs
+place-requires : tie.Need-place-requires
+place-requires c κs = search needs
 
 edge-requires : tie.Need-edge-requires
 edge-requires c κs = search needs
@@ -75,8 +75,8 @@ shared-slice-copy-out-clearance-6 c = search needs
 
 clearance-requires : tie.Need-clearance-requires
 clearance-requires c κs =
-    let s = c .before .before .before .before .before .before .before .before .before .before .before .before .before .args in
-    let i = c .before .before .before .before .before .before .before .before .before .before .before .before .before .pre .0 .inside in
+    let s = c .before .before .before .before .before .before .before .before .before .before .before .before .before .before .args in
+    let i = c .before .before .before .before .before .before .before .before .before .before .before .before .before .before .pre .0 .inside in
     rw (
       back (getD (s .xs .now) (s .t) (pos 0)) (c .before .before .before .before .before .clearance-arg .given),
       back (getD (s .ys .now) (s .t) (pos 0)) (c .before .before .before .before .clearance-arg2 .given),
@@ -103,7 +103,7 @@ pub bound-spec : {M : Type 1} → statement M
 bound-spec =
     tie.close
     (tie.spec
-    mul-at
+    place-requires
     edge-requires
     add-edge
     edge-requires-2

@@ -1,26 +1,25 @@
 -- `blocks::survey` meets its contract: block by block. Assumes nothing.
 use Prim.Native.Nat.{_-_, _≤_}
 use mathlib.Core.Path.{_≡_}
-use native.Mathlib.Omega.{arith}
 use lib.ListN.{length}
 use borrow.Author.Needs.{needs}
 use Rattle.revise.proofs.blocks.survey.Statement.{statement}
 use Rattle.revise.proofs.blocks.survey.Tie as tie
 
 abbrev Inv-loop : tie.InvT-loop
-Inv-loop ns xs ys edges₀ k₀ edges k = (k ≤ length ns) × (length edges ≡ length edges₀)
+Inv-loop ns xs ys edges₀ left k₀ edges k = (k ≤ length ns) × (length edges ≡ length edges₀)
 
 abbrev μ-loop : tie.MeasureT-loop
-μ-loop ns xs ys edges₀ k₀ edges k = length ns - k
+μ-loop ns xs ys edges₀ left k₀ edges k = length ns - k
 
 loop-holds : tie.Need-loop-holds Inv-loop μ-loop
 loop-holds c = search needs
 
+refresh-requires : tie.Need-refresh-requires Inv-loop μ-loop
+refresh-requires c κs = search needs
+
 stop-requires : tie.Need-stop-requires Inv-loop μ-loop
 stop-requires c κs = search needs
-
-frame-requires : tie.Need-frame-requires Inv-loop μ-loop
-frame-requires c κs = let p = c .before .before .before .before .before .before .pre in let e = c .before .stop .ensures in (p .0, e .0, e .1, p .1, omega arith)
 
 loop-less : tie.Need-loop-less Inv-loop μ-loop
 loop-less c = search needs
@@ -41,8 +40,8 @@ survey-spec =
     Inv-loop
     μ-loop
     loop-holds
+    refresh-requires
     stop-requires
-    frame-requires
     loop-less
     loop-again
     same-length

@@ -11,10 +11,10 @@ write-requires : tie.Need-write-requires
 write-requires c κs = search needs
 
 review-requires : tie.Need-review-requires
-review-requires c κs = let p = c .before .before .before .before .before .before .before .before .before .before .before .before .before .before .before .before .before .before .before .before .pre in let d = p .0 .1 in ((p .0 .0, d .of-was, c .before .before .before .before .before .before .before .before .before .before .before .take .kept .1 .1 .0 ∙ d .of-left, p .1 .0), (d .of-rich, p .0 .2 .rich))
+review-requires c κs = let p = c .before .before .before .before .before .before .before .before .before .before .before .before .before .before .before .before .before .before .before .before .before .before .before .before .pre in let d = p .0 .1 in ((p .0 .0, d .of-was, c .before .before .before .before .before .before .before .before .before .before .before .before .before .before .take .kept .1 .1 .1 .0 ∙ d .of-left, p .1 .0), (d .of-rich, p .0 .2 .rich))
 
 review-requires-2 : tie.Need-review-requires-2
-review-requires-2 c κs = let p = c .before .before .before .before .before .before .before .before .before .before .before .before .before .before .before .before .before .before .before .before .before .before .before .before .before .pre in let d = p .0 .1 in let v = c .before .before .before .before .review in ((p .0 .0, d .of-was, c .before .before .before .before .before .before .before .before .before .before .before .before .before .before .before .before .take .kept .1 .1 .0 ∙ d .of-left, p .1 .1), (v .kept .1 .1 .1 .1 .1 .1 .1 .1 .1 .0 ∙ d .of-rich, v .ensures))
+review-requires-2 c κs = let p = c .before .before .before .before .before .before .before .before .before .before .before .before .before .before .before .before .before .before .before .before .before .before .before .before .before .before .before .before .before .before .before .before .pre in let d = p .0 .1 in let v = c .before .before .before .before .before .before .before .review in ((p .0 .0, d .of-was, c .before .before .before .before .before .before .before .before .before .before .before .before .before .before .before .before .before .before .before .before .before .before .take .kept .1 .1 .1 .0 ∙ d .of-left, p .1 .1), (v .kept .1 .1 .1 .1 .1 .1 .1 .1 .1 .0 ∙ d .of-rich, v .ensures))
 
 same-length : tie.Need-same-length
 same-length c = search needs
@@ -27,6 +27,9 @@ same-length-3 c = search needs
 
 same-length-4 : tie.Need-same-length-4
 same-length-4 c = search needs
+
+same-length-5 : tie.Need-same-length-5
+same-length-5 c = search needs
 
 returns : tie.Need-returns
 returns c = search needs
@@ -43,4 +46,5 @@ link-spec =
     same-length-2
     same-length-3
     same-length-4
+    same-length-5
     returns)

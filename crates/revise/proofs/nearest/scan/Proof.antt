@@ -1,5 +1,6 @@
 -- `nearest::scan` meets its contract: block by block, what is kept is one of the rows. Assumes nothing.
 use Prim.Native.Nat.{_-_, _<_}
+use mathlib.Core.Path.{_≡_}
 use native.Mathlib.Omega.{arith}
 use lib.ListN.{length}
 use borrow.Author.Needs.{needs}
@@ -7,10 +8,10 @@ use Rattle.revise.proofs.nearest.scan.Statement.{statement}
 use Rattle.revise.proofs.nearest.scan.Tie as tie
 
 abbrev Inv-loop : tie.InvT-loop
-Inv-loop t first end ns xs ys edges left s₀ k₀ s k = s .at < length ns
+Inv-loop t first end ns xs ys edges₀ left s₀ k₀ edges s k = (s .at < length ns) × (length edges ≡ length edges₀)
 
 abbrev μ-loop : tie.MeasureT-loop
-μ-loop t first end ns xs ys edges left s₀ k₀ s k = end - k
+μ-loop t first end ns xs ys edges₀ left s₀ k₀ edges s k = end - k
 
 loop-holds : tie.Need-loop-holds Inv-loop μ-loop
 loop-holds c = search needs
@@ -19,7 +20,7 @@ stop-requires : tie.Need-stop-requires Inv-loop μ-loop
 stop-requires c κs = search needs
 
 visit-requires : tie.Need-visit-requires Inv-loop μ-loop
-visit-requires c κs = let p = c .before .before .before .before .before .before .pre in let e = c .stop .ensures in ((p .0, p .1, p .2, omega arith, c .before .before .loop .inv), (e .0, p .4))
+visit-requires c κs = let p = c .before .before .before .before .before .before .before .pre in let e = c .before .stop .ensures in ((p .0, p .1, p .2, omega arith, c .before .before .before .loop .inv .0), (e .0, p .4))
 
 loop-less : tie.Need-loop-less Inv-loop μ-loop
 loop-less c = search needs
@@ -27,10 +28,13 @@ loop-less c = search needs
 loop-again : tie.Need-loop-again Inv-loop μ-loop
 loop-again c = search needs
 
+same-length : tie.Need-same-length Inv-loop μ-loop
+same-length c = search needs
+
 returns : tie.Need-returns Inv-loop μ-loop
 returns c = search needs
 
 pub scan-spec : {M : Type 1} → statement M
 scan-spec =
     tie.close
-    (tie.spec Inv-loop μ-loop loop-holds stop-requires visit-requires loop-less loop-again returns)
+    (tie.spec Inv-loop μ-loop loop-holds stop-requires visit-requires loop-less loop-again same-length returns)

@@ -17,10 +17,13 @@ dismiss-requires : tie.Need-dismiss-requires
 dismiss-requires c κs = search needs
 
 enter-requires : tie.Need-enter-requires
-enter-requires c κs = let p = c .before .before .before .before .before .before .before .before .before .before .before .pre in let d = c .before .before .before .dismiss in ((p .0 .0, p .0 .1, c .before .before .before .before .before .first .ensures), (d .kept .1 .1 .0 ∙ p .1 .0, d .ensures))
+enter-requires c κs = let p = c .before .before .before .before .before .before .before .before .before .before .before .before .pre in let d = c .before .before .before .before .dismiss in ((p .0 .0, p .0 .1, c .before .before .before .before .before .before .first .ensures), (d .kept .1 .1 .0 ∙ p .1 .0, d .ensures))
 
 same-length : tie.Need-same-length
 same-length c = search needs
+
+same-length-2 : tie.Need-same-length-2
+same-length-2 c = search needs
 
 returns : tie.Need-returns
 returns c = search needs
@@ -35,4 +38,5 @@ renew-spec =
     dismiss-requires
     enter-requires
     same-length
+    same-length-2
     returns)

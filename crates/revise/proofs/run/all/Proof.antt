@@ -1,5 +1,7 @@
 -- `run::all` meets its contract. The loop's invariant: the columns keep their lengths, and the run is fair. Assumes nothing.
 use Prim.Native.Nat.{_-_}
+use mathlib.Core.Path.{_≡_}
+use lib.ListN.{length}
 use Rattle.revise.specs.Sizes.{turns}
 use Rattle.revise.specs.Rows.{Desk, Fair}
 use borrow.Author.Needs.{needs}
@@ -7,10 +9,10 @@ use Rattle.revise.proofs.run.all.Statement.{statement}
 use Rattle.revise.proofs.run.all.Tie as tie
 
 abbrev Inv-loop : tie.InvT-loop
-Inv-loop z second split ns xs ys edges was₀ left₀ rich₀ la lb ld lm ia ib news₀ km₀ s₀ k₀ was left rich news km s k = Desk ns was left rich news km × Fair s
+Inv-loop z second split ns xs ys edges₀ was₀ left₀ rich₀ la lb ld lm ia ib news₀ km₀ s₀ k₀ edges was left rich news km s k = Desk ns was left rich news km × Fair s × (length edges ≡ length edges₀)
 
 abbrev μ-loop : tie.MeasureT-loop
-μ-loop z second split ns xs ys edges was₀ left₀ rich₀ la lb ld lm ia ib news₀ km₀ s₀ k₀ was left rich news km s k = turns - k
+μ-loop z second split ns xs ys edges₀ was₀ left₀ rich₀ la lb ld lm ia ib news₀ km₀ s₀ k₀ edges was left rich news km s k = turns - k
 
 loop-holds : tie.Need-loop-holds Inv-loop μ-loop
 loop-holds c = search needs
@@ -30,11 +32,14 @@ same-length-4 c = search needs
 same-length-5 : tie.Need-same-length-5 Inv-loop μ-loop
 same-length-5 c = search needs
 
+same-length-6 : tie.Need-same-length-6 Inv-loop μ-loop
+same-length-6 c = search needs
+
 returns : tie.Need-returns Inv-loop μ-loop
 returns c = search needs
 
 turn-requires : tie.Need-turn-requires Inv-loop μ-loop
-turn-requires c κs = let p = c .before .before .before .before .before .before .before .before .before .before .before .before .before .before .before .before .before .before .before .before .before .pre in let i = c .before .before .before .before .before .before .before .loop .inv in ((p .0 .0, i .0, i .1), p .1)
+turn-requires c κs = let p = c .before .before .before .before .before .before .before .before .before .before .before .before .before .before .before .before .before .before .before .before .before .before .pre in let i = c .before .before .before .before .before .before .before .before .loop .inv in ((p .0 .0, i .0, i .1), p .1)
 
 add-k : tie.Need-add-k Inv-loop μ-loop
 add-k c = search needs
@@ -44,9 +49,6 @@ loop-less c = search needs
 
 loop-again : tie.Need-loop-again Inv-loop μ-loop
 loop-again c = search needs
-
-same-length-6 : tie.Need-same-length-6 Inv-loop μ-loop
-same-length-6 c = search needs
 
 same-length-7 : tie.Need-same-length-7 Inv-loop μ-loop
 same-length-7 c = search needs
@@ -59,6 +61,12 @@ same-length-9 c = search needs
 
 same-length-10 : tie.Need-same-length-10 Inv-loop μ-loop
 same-length-10 c = search needs
+
+same-length-11 : tie.Need-same-length-11 Inv-loop μ-loop
+same-length-11 c = search needs
+
+same-length-12 : tie.Need-same-length-12 Inv-loop μ-loop
+same-length-12 c = search needs
 
 returns-2 : tie.Need-returns-2 Inv-loop μ-loop
 returns-2 c = search needs
@@ -75,14 +83,16 @@ all-spec =
     same-length-3
     same-length-4
     same-length-5
+    same-length-6
     returns
     turn-requires
     add-k
     loop-less
     loop-again
-    same-length-6
     same-length-7
     same-length-8
     same-length-9
     same-length-10
+    same-length-11
+    same-length-12
     returns-2)

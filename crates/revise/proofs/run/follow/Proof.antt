@@ -30,7 +30,7 @@ other-requires : tie.Need-other-requires
 other-requires c κs = search needs
 
 release-requires : tie.Need-release-requires
-release-requires c κs = let p = c .before .before .before .before .before .before .before .before .before .before .before .before .before .before .before .before .before .before .before .before .before .before .before .pre in let d = p .0 .1 in ((p .0 .0, d .of-was, d .of-left, d .of-rich, p .0 .2), c .before .before .before .other .ensures)
+release-requires c κs = let p = c .before .before .before .before .before .before .before .before .before .before .before .before .before .before .before .before .before .before .before .before .before .before .before .before .pre in let d = p .0 .1 in ((p .0 .0, d .of-was, d .of-left, d .of-rich, p .0 .2), c .before .before .before .before .other .ensures)
 
 same-length : tie.Need-same-length
 same-length c = search needs
@@ -40,6 +40,9 @@ same-length-2 c = search needs
 
 same-length-3 : tie.Need-same-length-3
 same-length-3 c = search needs
+
+same-length-4 : tie.Need-same-length-4
+same-length-4 c = search needs
 
 returns : tie.Need-returns
 returns c = search needs
@@ -51,10 +54,7 @@ spend-requires-2 : tie.Need-spend-requires-2
 spend-requires-2 c κs = omega (arith, c .before .before .before .spend .kept, c .before .before .before .before .before .before .before .before .before .hint2 .ensures, c .before .before .before .before .before .before .before .before .before .before .before .before .before .before .before .before .before .before .before .before .before .before .before .before .pre .0 .1 .of-was)
 
 link-requires : tie.Need-link-requires
-link-requires c κs = let p = c .before .before .before .before .before .before .before .before .before .before .before .before .before .before .before .before .before .before .before .before .before .before .before .before .before .before .before .before .before .before .before .before .pre in let d = p .0 .1 in ((p .0 .0, record { of-was = c .before .before .before .before .before .before .before .spend2 .kept .1 .1 .0 ∙ c .before .before .before .before .before .before .before .before .before .before .before .spend .kept .1 .1 .0 ∙ d .of-was; of-left = d .of-left; of-rich = d .of-rich; of-news = d .of-news; of-km = d .of-km }, p .0 .2), (c .before .before .before .before .before .before .before .before .before .before .before .before .before .before .before .before .before .before .hint .ensures, c .before .before .before .before .before .before .before .before .before .before .before .before .before .before .before .before .before .hint2 .ensures))
-
-same-length-4 : tie.Need-same-length-4
-same-length-4 c = search needs
+link-requires c κs = let p = c .before .before .before .before .before .before .before .before .before .before .before .before .before .before .before .before .before .before .before .before .before .before .before .before .before .before .before .before .before .before .before .before .before .pre in let d = p .0 .1 in ((p .0 .0, record { of-was = c .before .before .before .before .before .before .before .before .spend2 .kept .1 .1 .0 ∙ c .before .before .before .before .before .before .before .before .before .before .before .before .spend .kept .1 .1 .0 ∙ d .of-was; of-left = d .of-left; of-rich = d .of-rich; of-news = d .of-news; of-km = d .of-km }, p .0 .2), (c .before .before .before .before .before .before .before .before .before .before .before .before .before .before .before .before .before .before .before .hint .ensures, c .before .before .before .before .before .before .before .before .before .before .before .before .before .before .before .before .before .before .hint2 .ensures))
 
 same-length-5 : tie.Need-same-length-5
 same-length-5 c = search needs
@@ -67,6 +67,12 @@ same-length-7 c = search needs
 
 same-length-8 : tie.Need-same-length-8
 same-length-8 c = search needs
+
+same-length-9 : tie.Need-same-length-9
+same-length-9 c = search needs
+
+same-length-10 : tie.Need-same-length-10
+same-length-10 c = search needs
 
 returns-2 : tie.Need-returns-2
 returns-2 c = search needs
@@ -87,13 +93,15 @@ follow-spec =
     same-length
     same-length-2
     same-length-3
+    same-length-4
     returns
     spend-requires
     spend-requires-2
     link-requires
-    same-length-4
     same-length-5
     same-length-6
     same-length-7
     same-length-8
+    same-length-9
+    same-length-10
     returns-2)
