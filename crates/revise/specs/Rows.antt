@@ -31,8 +31,9 @@ pub record Fair (s : Run) : Type 0 where
   pub rich : s .rich ≤ richRows
   pub links : s .links ≤ linkRows
 
--- A frame's rows are below end.
+-- A frame's rows are below end, and not more than end.
 pub record Within (f : Frame) (end : ℕ) : Type 0 where
+  pub count : f .count ≤ end
   pub west : f .west < end
   pub east : f .east < end
   pub south : f .south < end

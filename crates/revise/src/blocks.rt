@@ -3,15 +3,15 @@ use crate::run::wide;
 use crate::sizes;
 use join::nearest::pack;
 ghost use mathlib.Core.Path.{_≡_};
-ghost use Prim.Native.Nat.{_<_, _≤_};
+ghost use Prim.Native.Nat.{_+_, _<_, _≤_};
 ghost use lib.ListN.{length};
 ghost use Rattle.join.specs.Sizes.{tableRows};
 ghost use Rattle.join.specs.Rows.{Columns};
 ghost use Rattle.revise.specs.Rows.{Within};
 
-// The rows at the four edges of a box and the one with the least number, if there is a row in it.
+// How many rows there are in a box, those at its four edges and the one with the least number.
 struct Frame {
-    some: bool,
+    count: usize,
     west: usize,
     east: usize,
     south: usize,
@@ -54,15 +54,15 @@ fn greater(xs: &[i16], i: usize, k: usize, end: usize) -> usize
 
 // The frame of the rows of f and of row k, if something is left of that.
 fn grow(f: Frame, k: usize, end: usize, ns: &[u32], xs: &[i16], ys: &[i16], left: &[u32]) -> Frame
-    requires { ⌜ Columns (now ns) (now xs) (now ys) × (length (now left) ≡ length (now ns)) × Within f end × (k < end) × (end ≤ length (now ns)) ⌝ }
-    ensures { λ r. ⌜ Within r end ⌝ }
+    requires { ⌜ Columns (now ns) (now xs) (now ys) × (length (now left) ≡ length (now ns)) × Within f end × (f .count ≤ k) × (k < end) × (end ≤ length (now ns)) ⌝ }
+    ensures { λ r. ⌜ Within r end × (r .count ≤ k + 1) ⌝ }
 {
     if left[k] == 0 {
         return f;
     }
-    if !f.some {
+    if f.count == 0 {
         return Frame {
-            some: true,
+            count: 1,
             west: k,
             east: k,
             south: k,
@@ -76,7 +76,7 @@ fn grow(f: Frame, k: usize, end: usize, ns: &[u32], xs: &[i16], ys: &[i16], left
     let north = greater(ys, f.north, k, end);
     let least = lower(ns, f.least, k, end);
     Frame {
-        some: true,
+        count: f.count + 1,
         west: west,
         east: east,
         south: south,
@@ -91,7 +91,7 @@ fn around(first: usize, end: usize, ns: &[u32], xs: &[i16], ys: &[i16], left: &[
     ensures { λ r. ⌜ Within r end ⌝ }
 {
     let mut f = Frame {
-        some: false,
+        count: 0,
         west: first,
         east: first,
         south: first,
@@ -123,11 +123,11 @@ fn mark(at: usize, r: usize, edges: &mut [u16])
     }
 }
 
-// Writes a frame at a place of the column.
+// Writes a frame at a place of the column. It serves until half of its rows are used up.
 fn keep(at: usize, f: Frame, edges: &mut [u16])
     requires { ⌜ (at < tableRows) × Within f tableRows ⌝ }
 {
-    if !f.some {
+    if f.count == 0 {
         mark(at + sizes::STATE, sizes::EMPTY, edges);
         return;
     }
@@ -136,14 +136,7 @@ fn keep(at: usize, f: Frame, edges: &mut [u16])
     mark(at + 2, f.south, edges);
     mark(at + 3, f.north, edges);
     mark(at + 4, f.least, edges);
-    mark(at + sizes::STATE, sizes::CLEAN, edges);
-}
-
-// A row of the block of row k is used up: its box is to be made anew.
-pub fn invalidate(k: usize, edges: &mut [u16])
-    requires { ⌜ k < tableRows ⌝ }
-{
-    mark(place(k) + sizes::STATE, sizes::STALE, edges);
+    mark(at + sizes::STATE, (f.count + 1) / 2, edges);
 }
 
 // Where the block of row k ends, at the latest at end.
@@ -193,8 +186,20 @@ fn edge(at: usize, size: usize, edges: &[u16]) -> usize
 // The state of the block of row k.
 fn state(k: usize, edges: &[u16]) -> usize
     requires { ⌜ k < tableRows ⌝ }
+    ensures { λ r. ⌜ r < tableRows ⌝ }
 {
     edge(place(k) + sizes::STATE, sizes::STATES, edges)
+}
+
+// Row k is used up.
+pub fn retire(k: usize, edges: &mut [u16])
+    requires { ⌜ k < tableRows ⌝ }
+{
+    let s = state(k, edges);
+    if s == sizes::STALE {
+        return;
+    }
+    mark(place(k) + sizes::STATE, s - 1, edges);
 }
 
 // A key that no row in the box of row k's block is below, as seen from row t.
@@ -222,7 +227,7 @@ fn far(t: usize, k: usize, key: u64, ns: &[u32], xs: &[i16], ys: &[i16], edges: 
     bound(t, k, ns, xs, ys, edges) >= key
 }
 
-// The same, asked again of a box that is made anew where it may have become smaller.
+// The same, asked again of a box that is made anew where that is due.
 pub fn skip(
     t: usize,
     k: usize,

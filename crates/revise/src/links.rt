@@ -23,13 +23,13 @@ pub fn spend(r: usize, m: u32, left: &mut [u32])
     left[r] = x - m;
 }
 
-// Takes m of what row r has left; where that uses it up, the box of its block is to be made anew.
+// Takes m of what row r has left; where that uses it up, its block is told.
 fn draw(r: usize, m: u32, edges: &mut [u16], left: &mut [u32])
     requires { ⌜ (r < length (now left)) × (length (now left) ≤ tableRows) ⌝ }
 {
     spend(r, m, left);
     if left[r] == 0 {
-        blocks::invalidate(r, edges);
+        blocks::retire(r, edges);
     }
 }
 

@@ -25,11 +25,9 @@ pub const STATE: usize = 5;
 // What is kept of all blocks.
 pub const FRAMES: usize = 192;
 
-// The states of a block: its box is around the rows that have something left; a row of it was used up since; nothing is left in it.
-pub const CLEAN: usize = 0;
+// The states of a block: how many of its rows can be used up until its box is to be made anew, with none left of these; or nothing is left in it.
+pub const STALE: usize = 0;
 
-pub const STALE: usize = 1;
+pub const EMPTY: usize = 63;
 
-pub const EMPTY: usize = 2;
-
-pub const STATES: usize = 3;
+pub const STATES: usize = 64;

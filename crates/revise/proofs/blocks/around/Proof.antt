@@ -1,5 +1,5 @@
 -- `blocks::around` meets its contract: the frame's rows are below end. Assumes nothing.
-use Prim.Native.Nat.{_-_}
+use Prim.Native.Nat.{_-_, _≤_}
 use native.Mathlib.Omega.{arith}
 use borrow.Author.Needs.{needs}
 use Rattle.revise.specs.Rows.{Within}
@@ -7,7 +7,7 @@ use Rattle.revise.proofs.blocks.around.Statement.{statement}
 use Rattle.revise.proofs.blocks.around.Tie as tie
 
 abbrev Inv-loop : tie.InvT-loop
-Inv-loop first end ns xs ys left f₀ k₀ f k = Within f end
+Inv-loop first end ns xs ys left f₀ k₀ f k = Within f end × (f .count ≤ k)
 
 abbrev μ-loop : tie.MeasureT-loop
 μ-loop first end ns xs ys left f₀ k₀ f k = end - k
