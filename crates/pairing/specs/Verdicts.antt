@@ -7,11 +7,14 @@ use mathlib.Core.List.{List}
 use lib.IntN.{ℤ}
 use lib.ListN.{length, take}
 use Rattle.matching.specs.Definitions.Nodes.{Unique, Reordered}
+use Rattle.matching.specs.Definitions.Links.{Link}
 use Rattle.matching.specs.Definitions.Columns.{nodesOf}
+use Rattle.matching.specs.Definitions.Columns.{linksOf as rowsOf}
 use Rattle.tables.specs.Definitions.Sizes.{tableSize, nodeRows, linkRows, listSize}
 use Rattle.tables.specs.Definitions.Tables.{nodesIn, firstFault}
 use Rattle.tables.specs.Definitions.Lists.{finished, firstDifference, zeroFrom}
 use Rattle.tables.specs.Laws.Decode.{Rooms}
+use Rattle.tables.specs.Laws.ListRead.{LinksRead}
 use Rattle.join.specs.Contract.{Fit, Joined}
 use Rattle.contract.specs.declared.Answer.{Answer}
 use Rattle.contract.specs.declared.Answer.the-variants.{Done, WrongLength, FaultyA, FaultyB, DamagedList, UnfinishedList, BadKind, BadMaster, BadField, BadNumber, TableFull}
@@ -34,12 +37,24 @@ pub record Loaded (t ns : List ℕ) (xs ys : List ℤ) (ks : List ℕ) (n : ℕ)
   pub unique : Unique (nodesIn t)
   pub nodes : Reordered (nodesIn t) (nodesOf (take n ns) (take n xs) (take n ys) (take n ks))
 
+-- The columns are the table's nodes, in some order, and fit for the join.
+pub record Held (t ns : List ℕ) (xs ys : List ℤ) (ks : List ℕ) : Type 0 where
+  pub fit : Fit ns xs ys ks
+  pub unique : Unique (nodesIn t)
+  pub nodes : Reordered (nodesIn t) (nodesOf ns xs ys ks)
+
 -- Link columns of one length, at most that of a list.
 pub record Even (la lb ld lm : List ℕ) : Type 0 where
   pub most : length la ≤ linkRows
   pub of-b : length lb ≡ length la
   pub of-d : length ld ≡ length la
   pub of-m : length lm ≡ length la
+
+-- The columns have the n links of a list, after which it is zero; they are the links js.
+pub record Read (l la lb ld lm : List ℕ) (n : ℕ) (js : List Link) : Type 0 where
+  pub links : LinksRead l la lb ld lm n
+  pub zero : zeroFrom l n ≡ true
+  pub all : rowsOf (take n la) (take n lb) (take n ld) (take n lm) (length (take n la)) ≡ js
 
 -- A claim for done with its value, another for every refusal.
 abbrev pub byAnswer : (ℕ → Type 0) → (Answer → Type 0) → Answer → Type 0

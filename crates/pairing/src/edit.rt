@@ -1,30 +1,27 @@
 // Edit: one table changed, and the list finished for both again.
 ghost use Prim.Native.Nat.{_≤_};
 ghost use mathlib.Core.Path.{_≡_};
-ghost use mathlib.Core.Bool.{true};
-ghost use mathlib.Core.Option.{none};
 ghost use mathlib.Core.List.{[], _∷_};
 ghost use lib.ListN.{length};
 ghost use Rattle.matching.specs.Definitions.Nodes.{each};
 ghost use Rattle.tables.specs.Definitions.Sizes.{editSize, tableSize, linkRows, listSize};
 ghost use Rattle.tables.specs.Definitions.Tables.{nodesIn};
-ghost use Rattle.tables.specs.Definitions.Edits.{kindOf, masterOf, editTable};
-ghost use Rattle.tables.specs.Laws.Changes.{changeOf, known};
+ghost use Rattle.tables.specs.Definitions.Edits.{masterOf, editTable};
 ghost use Rattle.tables.specs.Laws.Edits.{Passes};
 ghost use Rattle.tables.specs.Laws.ListCode.{Long};
-ghost use Rattle.contract.specs.Definitions.Requests.{lengthsOf, masterNamed};
-ghost use Rattle.contract.specs.Definitions.Refusals.{refusal};
+ghost use Rattle.verify.specs.Barred.{Barred};
+ghost use Rattle.contract.specs.Definitions.Requests.{masterNamed};
 ghost use Rattle.contract.specs.Definitions.Calls.{outcome, editCall};
-ghost use Rattle.pairing.specs.Verdicts.{Sound, Finished};
-ghost use Rattle.pairing.specs.Edit.{request, placeAnswer, nodeAnswer, editAnswer, Changed, Rewritten};
+ghost use Rattle.pairing.specs.Verdicts.{Sound, Held};
+ghost use Rattle.pairing.specs.Edit.{Changed, Stands, Rewritten};
+use super::judge::judge;
+use super::load::load;
 use super::revised::revised;
 use super::verdict;
 use contract::Answer;
 use tables::compare::common_rows;
-use tables::edits::Change;
 use tables::edits::apply;
 use tables::edits::change_of;
-use tables::edits::fields_right;
 use tables::edits::master_of;
 use tables::edits::number_of;
 use tables::find::count;
@@ -34,64 +31,6 @@ use tables::sizes::EDIT;
 use tables::sizes::LINK;
 use tables::sizes::LINKS;
 use tables::sizes::NODES;
-
-// The number of an arrival must be new and a row free; every other number must be there.
-fn judge_place(change: Change, t: &[u8], edit: &[u8]) -> Answer
-    requires { ⌜ (length (now t) ≡ tableSize) × (length (now edit) ≡ editSize) × (change ≡ changeOf (kindOf (now edit))) ⌝ }
-    ensures { λ r. ⌜ r ≡ placeAnswer (now (edit .entry)) (nodesIn (now (t .entry))) ⌝ }
-{
-    let row = row_of(t, number_of(edit));
-    match change {
-        Change::Arrival => {
-            if row < NODES {
-                return Answer::BadNumber;
-            }
-            if count(t) == NODES {
-                return Answer::TableFull;
-            }
-            Answer::Done(0)
-        }
-        _ => {
-            if row == NODES {
-                return Answer::BadNumber;
-            }
-            Answer::Done(0)
-        }
-    }
-}
-
-// A known change in the table of its master.
-fn judge_node(change: Change, t: &[u8], edit: &[u8]) -> Answer
-    requires { ⌜ (length (now t) ≡ tableSize) × (length (now edit) ≡ editSize) × (change ≡ changeOf (kindOf (now edit))) × (known change ≡ true) ⌝ }
-    ensures { λ r. ⌜ r ≡ nodeAnswer (now (edit .entry)) (nodesIn (now (t .entry))) ⌝ }
-{
-    if number_of(edit) == 0 {
-        return Answer::BadField;
-    }
-    if !fields_right(change, edit) {
-        return Answer::BadField;
-    }
-    judge_place(change, t, edit)
-}
-
-// The edit's places, once the list is known to be finished.
-fn judge(a: &[u8], b: &[u8], edit: &[u8]) -> Answer
-    requires { ⌜ (length (now a) ≡ tableSize) × (length (now b) ≡ tableSize) × (length (now edit) ≡ editSize) ⌝ }
-    ensures { λ r. ⌜ r ≡ editAnswer (now (edit .entry)) (nodesIn (now (a .entry))) (nodesIn (now (b .entry))) ⌝ }
-{
-    let change = change_of(edit);
-    match change {
-        Change::Unknown => Answer::BadKind,
-        _ => {
-            let master = master_of(edit);
-            match master {
-                0 => judge_node(change, a, edit),
-                1 => judge_node(change, b, edit),
-                _ => Answer::BadMaster,
-            }
-        }
-    }
-}
 
 // The edit's effect on the table of its master.
 fn change_table(t: &mut [u8], edit: &[u8])
@@ -121,14 +60,29 @@ fn rewrite(
     a: &[u8],
     b: &[u8],
     list: &mut [u8],
+    edit: &[u8],
+    an: &[u32],
+    ax: &[i16],
+    ay: &[i16],
+    ac: &mut [u32],
+    ia: &[u16],
+    af: &mut [u32],
+    ah: &mut [u32],
+    bn: &[u32],
+    bx: &[i16],
+    by: &[i16],
+    bc: &mut [u32],
+    ib: &[u16],
+    bf: &mut [u32],
+    bh: &mut [u32],
     la: &[u32],
     lb: &[u32],
     ld: &[u32],
     lm: &[u32],
     n: usize,
-    edit: &[u8],
 ) -> usize
     requires { ⌜ Sound (now a) (now b) × (length (now list) ≡ listSize) × Long (now la) (now lb) (now ld) (now lm) n × (n ≤ linkRows) × (length (now edit) ≡ editSize) ⌝ }
+    requires { ⌜ Stands (now edit) (now a) (now b) (now an) (now ax) (now ay) (now ac) (now bn) (now bx) (now by) (now bc) × Barred (now an) (now ax) (now ay) (now af) (now ah) (now bn) (now bx) (now by) (now bf) (now bh) × (length (now ia) ≡ linkRows) × (length (now ib) ≡ linkRows) ⌝ }
     ensures { λ r. ⌜ Rewritten (now (a .entry)) (now (b .entry)) (now (list .entry)) (now (la .entry)) (now (lb .entry)) (now (ld .entry)) (now (lm .entry)) n (now (list .exit)) r ⌝ }
 {
     let mut ka = [0u32; LINKS];
@@ -138,11 +92,24 @@ fn rewrite(
     let m = revised(
         a,
         b,
-        la,
-        lb,
-        ld,
-        lm,
-        n,
+        an,
+        ax,
+        ay,
+        ac,
+        &ia[..n],
+        af,
+        ah,
+        bn,
+        bx,
+        by,
+        bc,
+        &ib[..n],
+        bf,
+        bh,
+        &la[..n],
+        &lb[..n],
+        &ld[..n],
+        &lm[..n],
         &mut ka,
         &mut kb,
         &mut kd,
@@ -155,47 +122,161 @@ fn rewrite(
     kept
 }
 
-// The edit is right: the table, and then the list.
-fn perform(
+// Both masters are in columns: refused by the list or by the edit's own places, or performed: the table, and then the list.
+fn inspect(
     a: &mut [u8],
     b: &mut [u8],
     list: &mut [u8],
     edit: &[u8],
-    la: &[u32],
-    lb: &[u32],
-    ld: &[u32],
-    lm: &[u32],
-    n: usize,
+    an: &[u32],
+    ax: &[i16],
+    ay: &[i16],
+    ac: &mut [u32],
+    ak: &mut [u32],
+    bn: &[u32],
+    bx: &[i16],
+    by: &[i16],
+    bc: &mut [u32],
+    bk: &mut [u32],
 ) -> Answer
-    requires { ⌜ Finished (now a) (now b) (now list) (now la) (now lb) (now ld) (now lm) n ⌝ }
-    requires { ⌜ refusal (lengthsOf (now a) (now b) (now list)) (request (now edit)) (now a) (now b) (now list) ≡ none ⌝ }
+    requires { ⌜ Sound (now a) (now b) × (length (now list) ≡ listSize) × (length (now edit) ≡ editSize) × (now ak ≡ now ac) × (now bk ≡ now bc) ⌝ }
+    requires { ⌜ Held (now a) (now an) (now ax) (now ay) (now ac) × Held (now b) (now bn) (now bx) (now by) (now bc) ⌝ }
     ensures { λ r. ⌜ outcome r (now (a .exit)) (now (b .exit)) (now (list .exit)) (now (edit .entry) ∷ []) ≡ editCall (now (a .entry)) (now (b .entry)) (now (list .entry)) (now (edit .entry)) ⌝ }
 {
-    change_tables(a, b, edit);
-    let kept = rewrite(a, b, list, la, lb, ld, lm, n, edit);
-    Answer::Done(kept as u16)
-}
-
-// The list is finished: refused by the edit's own places, or performed.
-fn decide(
-    a: &mut [u8],
-    b: &mut [u8],
-    list: &mut [u8],
-    edit: &[u8],
-    la: &[u32],
-    lb: &[u32],
-    ld: &[u32],
-    lm: &[u32],
-    n: usize,
-) -> Answer
-    requires { ⌜ Finished (now a) (now b) (now list) (now la) (now lb) (now ld) (now lm) n × (length (now edit) ≡ editSize) ⌝ }
-    ensures { λ r. ⌜ outcome r (now (a .exit)) (now (b .exit)) (now (list .exit)) (now (edit .entry) ∷ []) ≡ editCall (now (a .entry)) (now (b .entry)) (now (list .entry)) (now (edit .entry)) ⌝ }
-{
-    let answer = judge(a, b, edit);
+    let mut la = [0u32; LINKS];
+    let mut lb = [0u32; LINKS];
+    let mut ld = [0u32; LINKS];
+    let mut lm = [0u32; LINKS];
+    let mut ia = [0u16; LINKS];
+    let mut ib = [0u16; LINKS];
+    let mut af = [0u32; NODES];
+    let mut ah = [0u32; NODES];
+    let mut bf = [0u32; NODES];
+    let mut bh = [0u32; NODES];
+    let answer = verdict::review(
+        a,
+        b,
+        list,
+        an,
+        ax,
+        ay,
+        ac,
+        &mut ia,
+        &mut af,
+        &mut ah,
+        bn,
+        bx,
+        by,
+        bc,
+        &mut ib,
+        &mut bf,
+        &mut bh,
+        &mut la,
+        &mut lb,
+        &mut ld,
+        &mut lm,
+    );
     match answer {
-        Answer::Done(_) => perform(a, b, list, edit, la, lb, ld, lm, n),
+        Answer::Done(links) => {
+            let verdict = judge(a, b, edit);
+            match verdict {
+                Answer::Done(_) => {
+                    change_tables(a, b, edit);
+                    let kept = rewrite(
+                        a,
+                        b,
+                        list,
+                        edit,
+                        an,
+                        ax,
+                        ay,
+                        ak,
+                        &ia,
+                        &mut af,
+                        &mut ah,
+                        bn,
+                        bx,
+                        by,
+                        bk,
+                        &ib,
+                        &mut bf,
+                        &mut bh,
+                        &la,
+                        &lb,
+                        &ld,
+                        &lm,
+                        links as usize,
+                    );
+                    Answer::Done(kept as u16)
+                }
+                _ => verdict,
+            }
+        }
         _ => answer,
     }
+}
+
+// A's nodes are in columns: B's too.
+fn beside(
+    a: &mut [u8],
+    b: &mut [u8],
+    list: &mut [u8],
+    edit: &[u8],
+    an: &[u32],
+    ax: &[i16],
+    ay: &[i16],
+    ac: &mut [u32],
+    ak: &mut [u32],
+) -> Answer
+    requires { ⌜ Sound (now a) (now b) × (length (now list) ≡ listSize) × (length (now edit) ≡ editSize) × (now ak ≡ now ac) × Held (now a) (now an) (now ax) (now ay) (now ac) ⌝ }
+    ensures { λ r. ⌜ outcome r (now (a .exit)) (now (b .exit)) (now (list .exit)) (now (edit .entry) ∷ []) ≡ editCall (now (a .entry)) (now (b .entry)) (now (list .entry)) (now (edit .entry)) ⌝ }
+{
+    let mut ns = [0u32; NODES];
+    let mut xs = [0i16; NODES];
+    let mut ys = [0i16; NODES];
+    let mut ks = [0u32; NODES];
+    let n = load(b, &mut ns, &mut xs, &mut ys, &mut ks);
+    let mut kept = ks;
+    inspect(
+        a,
+        b,
+        list,
+        edit,
+        an,
+        ax,
+        ay,
+        ac,
+        ak,
+        &ns[..n],
+        &xs[..n],
+        &ys[..n],
+        &mut ks[..n],
+        &mut kept[..n],
+    )
+}
+
+// The tables are sound: A's nodes into columns.
+fn begin(a: &mut [u8], b: &mut [u8], list: &mut [u8], edit: &[u8]) -> Answer
+    requires { ⌜ Sound (now a) (now b) × (length (now list) ≡ listSize) × (length (now edit) ≡ editSize) ⌝ }
+    ensures { λ r. ⌜ outcome r (now (a .exit)) (now (b .exit)) (now (list .exit)) (now (edit .entry) ∷ []) ≡ editCall (now (a .entry)) (now (b .entry)) (now (list .entry)) (now (edit .entry)) ⌝ }
+{
+    let mut ns = [0u32; NODES];
+    let mut xs = [0i16; NODES];
+    let mut ys = [0i16; NODES];
+    let mut ks = [0u32; NODES];
+    let n = load(a, &mut ns, &mut xs, &mut ys, &mut ks);
+    let mut kept = ks;
+    beside(
+        a,
+        b,
+        list,
+        edit,
+        &ns[..n],
+        &xs[..n],
+        &ys[..n],
+        &mut ks[..n],
+        &mut kept[..n],
+    )
 }
 
 pub fn edit(a: &mut [u8], b: &mut [u8], list: &mut [u8], edit: &[u8]) -> Answer
@@ -204,13 +285,9 @@ pub fn edit(a: &mut [u8], b: &mut [u8], list: &mut [u8], edit: &[u8]) -> Answer
     if edit.len() != EDIT {
         return Answer::WrongLength;
     }
-    let mut la = [0u32; LINKS];
-    let mut lb = [0u32; LINKS];
-    let mut ld = [0u32; LINKS];
-    let mut lm = [0u32; LINKS];
-    let answer = verdict::list(a, b, list, &mut la, &mut lb, &mut ld, &mut lm);
+    let answer = verdict::tables(a, b, list);
     match answer {
-        Answer::Done(links) => decide(a, b, list, edit, &la, &lb, &ld, &lm, links as usize),
+        Answer::Done(_) => begin(a, b, list, edit),
         _ => answer,
     }
 }

@@ -6,6 +6,8 @@ ghost use Rattle.contract.specs.Definitions.Calls.{pairCall, stepCall, editCall
 mod bands;
 mod check;
 mod edit;
+mod guess;
+mod judge;
 mod links;
 mod load;
 mod pair;

@@ -3,3 +3,5 @@ pub mod Limits
 pub mod Links
 pub mod Whole
 pub mod Blocks
+pub mod Later
+pub mod Carried

@@ -4,3 +4,7 @@ pub mod Rows
 pub mod Limits
 pub mod Open
 pub mod Blocks
+pub mod Links
+pub mod Later
+pub mod Barred
+pub mod Carried

@@ -1,10 +1,11 @@
-// One pass over the pairs, B's block by block: is one of them ahead of the limits of both its nodes? Then it is missing among the links.
+// A pass over the pairs of some of A's places, B's block by block: is one of them ahead of the limits of both its nodes? Then it is missing among the links.
 use super::blocks;
 use super::blocks::Block;
+use super::rows::place;
 ghost use Prim.Native.Nat.{ℕ, _+_, _≤_, _<_};
 ghost use mathlib.Core.Path.{_≡_};
 ghost use mathlib.Core.Bool.{false};
-ghost use lib.ListN.{length};
+ghost use lib.ListN.{length, getD};
 ghost use Rattle.join.specs.Sizes.{masterRows};
 ghost use Rattle.verify.specs.Open.{late as lateOf, Ruled, Shut};
 ghost use Rattle.verify.specs.Blocks.{Encloses};
@@ -105,10 +106,11 @@ fn open_in(
     open_row(i, first, end, an, ax, ay, af, ah, bn, bx, by, bf, bh) != 0
 }
 
-// Some pair of B's places from first to end is.
+// Some pair of A's listed places and B's places from first to end is.
 fn open_block(
     first: usize,
     end: usize,
+    rows: &[u16],
     an: &[u32],
     ax: &[i16],
     ay: &[i16],
@@ -120,22 +122,25 @@ fn open_block(
     bf: &[u32],
     bh: &[u32],
 ) -> bool
+    requires { ⌜ ((k : ℕ) → k < length (now rows) → getD (now rows) k 0 < length (now an)) ⌝ }
     requires { ⌜ ((i : ℕ) → i < length (now an) → Ruled (now an) (now ax) (now ay) (now af) (now ah) i) × ((j : ℕ) → j < length (now bn) → Ruled (now bn) (now bx) (now by) (now bf) (now bh) j) × (first < end) × (end ≤ length (now bn)) × (length (now bn) ≤ masterRows) ⌝ }
-    ensures { λ r. ⌜ (r ≡ false → (i : ℕ) → i < length (now (an .entry)) → (j : ℕ) → first ≤ j → j < end → Shut (now (an .entry)) (now (ax .entry)) (now (ay .entry)) (now (af .entry)) (now (ah .entry)) (now (bn .entry)) (now (bx .entry)) (now (by .entry)) (now (bf .entry)) (now (bh .entry)) i j) ⌝ }
+    ensures { λ r. ⌜ (r ≡ false → (k : ℕ) → k < length (now (rows .entry)) → (j : ℕ) → first ≤ j → j < end → Shut (now (an .entry)) (now (ax .entry)) (now (ay .entry)) (now (af .entry)) (now (ah .entry)) (now (bn .entry)) (now (bx .entry)) (now (by .entry)) (now (bf .entry)) (now (bh .entry)) (getD (now (rows .entry)) k 0) j) ⌝ }
 {
     let block = blocks::enclose(first, end, bn, bx, by, bf, bh);
-    let mut i = 0;
-    while i < an.len() {
+    let mut k = 0;
+    while k < rows.len() {
+        let i = place(rows, k);
         if open_in(i, block, first, end, an, ax, ay, af, ah, bn, bx, by, bf, bh) {
             return true;
         }
-        i += 1;
+        k += 1;
     }
     false
 }
 
-// Some pair is.
+// Some pair of A's listed places is.
 pub fn any_open(
+    rows: &[u16],
     an: &[u32],
     ax: &[i16],
     ay: &[i16],
@@ -147,13 +152,14 @@ pub fn any_open(
     bf: &[u32],
     bh: &[u32],
 ) -> bool
+    requires { ⌜ ((k : ℕ) → k < length (now rows) → getD (now rows) k 0 < length (now an)) ⌝ }
     requires { ⌜ ((i : ℕ) → i < length (now an) → Ruled (now an) (now ax) (now ay) (now af) (now ah) i) × ((j : ℕ) → j < length (now bn) → Ruled (now bn) (now bx) (now by) (now bf) (now bh) j) × (length (now bn) ≤ masterRows) ⌝ }
-    ensures { λ r. ⌜ (r ≡ false → (i j : ℕ) → i < length (now (an .entry)) → j < length (now (bn .entry)) → Shut (now (an .entry)) (now (ax .entry)) (now (ay .entry)) (now (af .entry)) (now (ah .entry)) (now (bn .entry)) (now (bx .entry)) (now (by .entry)) (now (bf .entry)) (now (bh .entry)) i j) ⌝ }
+    ensures { λ r. ⌜ (r ≡ false → (k j : ℕ) → k < length (now (rows .entry)) → j < length (now (bn .entry)) → Shut (now (an .entry)) (now (ax .entry)) (now (ay .entry)) (now (af .entry)) (now (ah .entry)) (now (bn .entry)) (now (bx .entry)) (now (by .entry)) (now (bf .entry)) (now (bh .entry)) (getD (now (rows .entry)) k 0) j) ⌝ }
 {
     let mut first = 0;
     while first < bn.len() {
         let end = blocks::end(first, bn.len());
-        if open_block(first, end, an, ax, ay, af, ah, bn, bx, by, bf, bh) {
+        if open_block(first, end, rows, an, ax, ay, af, ah, bn, bx, by, bf, bh) {
             return true;
         }
         first = end;

@@ -40,7 +40,7 @@ pub fn place(places: &[u16], k: usize) -> usize
 }
 
 // Place i of a master has the number n.
-fn has(ns: &[u32], i: usize, n: u32) -> bool
+pub fn has(ns: &[u32], i: usize, n: u32) -> bool
     ensures { λ r. ⌜ (r ≡ true → (i < length (now (ns .entry))) × (getD (now (ns .entry)) i 0 ≡ n)) ⌝ }
 {
     if i >= ns.len() {

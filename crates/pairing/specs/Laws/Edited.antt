@@ -1,6 +1,7 @@
 -- What an edit leaves.
 use Prim.Native.Nat.{ℕ, suc, _*_, _<_, _≤_}
-use mathlib.Core.Path.{_≡_, sym, _∙_, ap, ap₂}
+use mathlib.Core.Path.{_≡_, sym, _∙_, ap, ap₂, subst⁻¹}
+use lib.IntN.{ℤ}
 use mathlib.Core.Bool.{Bool, true, false, cond}
 use mathlib.Core.Option.{none, some}
 use mathlib.Core.List.{List, [], _∷_, _++_}
@@ -33,8 +34,8 @@ use Rattle.contract.specs.Laws.Refusals.{no-refusal, edit-passes, call-done}
 use Rattle.contract.specs.Laws.Places.{by-edit}
 use Rattle.contract.specs.Laws.Programs.{edit-list, edited-accepted, finished-length}
 use Rattle.contract.specs.Laws.Leading.{equal-lists}
-use Rattle.pairing.specs.Verdicts.{Sound, Finished}
-use Rattle.pairing.specs.Edit.{editAnswer, Changed, Rewritten}
+use Rattle.pairing.specs.Verdicts.{Sound, Held, Finished}
+use Rattle.pairing.specs.Edit.{editAnswer, Changed, Stands, Rewritten}
 use Rattle.pairing.specs.Laws.Answers.{Among, refusals}
 use Rattle.pairing.specs.Laws.Verdicts.{accepted-a, accepted-b, joined-finished}
 use Rattle.pairing.specs.Laws.Calls.{finished-call}
@@ -73,6 +74,15 @@ module _ (e a b : List ℕ) where
 
   pub passes-b : (masterOf e ≡ 0 → ⊥) → Passes e (each (nodesIn a) (nodesIn b) (masterNamed (masterOf e))) → Passes e (nodesIn b)
   passes-b m p = rw (ne-eqb (masterOf e) 0 m) at p
+
+  -- The columns of the table that stays are still its nodes.
+  pub stands : (a' b' : List ℕ) {an bn : List ℕ} {ax ay bx by : List ℤ} {ac bc : List ℕ} → Changed e a b a' b' → Held a an ax ay ac → Held b bn bx by bc → Stands e a' b' an ax ay ac bn bx by bc
+  stands a' b' {an} {bn} {ax} {ay} {bx} {by} {ac} {bc} c g h = record {
+    fit-a = g .fit;
+    fit-b = h .fit;
+    stays-a = λ m. subst⁻¹ (λ (t : List ℕ). Held t an ax ay ac) (rw (ne-eqb (masterOf e) 0 m) at (c .in-a)) g;
+    stays-b = λ m. subst⁻¹ (λ (t : List ℕ). Held t bn bx by bc) (rw (eq-eqb (masterOf e) 0 m) at (c .in-b)) h;
+  }
 
   pub changed-a : (a' : List ℕ) → masterOf e ≡ 0 → a' ≡ editTable e a → Changed e a b a' b
   changed-a a' m i = record { in-a = rw (eq-eqb (masterOf e) 0 m) i; in-b = rw (eq-eqb (masterOf e) 0 m) }

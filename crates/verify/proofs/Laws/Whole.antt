@@ -24,9 +24,11 @@ use Rattle.join.specs.Contract.{Fit}
 use Rattle.join.specs.Rows.{Placed}
 use Rattle.join.specs.Nearest.{across}
 use Rattle.verify.specs.Sizes.{free}
-use Rattle.verify.specs.Rows.{Level, pairAt, Located, Apart}
-use Rattle.verify.specs.Limits.{Limit, unlimited, limited, Sided}
-use Rattle.verify.specs.Open.{late, Ruled, Shut}
+use Rattle.verify.specs.Rows.{Level}
+use Rattle.verify.specs.Limits.{Limit, unlimited, limited}
+use Rattle.verify.specs.Open.{late, Shut}
+use Rattle.verify.specs.Later.{Limited}
+use Rattle.verify.specs.Links.{Held}
 use Rattle.verify.proofs.Laws.Links.{node-in, increasing-tabulate, links-all, used-taken}
 
 pub late-one : (n high : ℕ) → late n high ≤ 1
@@ -76,8 +78,8 @@ module _ (ns : List ℕ) (xs ys : List ℤ) (cs : List ℕ) (f : Fit ns xs ys cs
   pub fit-placed : (i : ℕ) → i < length ns → Placed xs ys i
   fit-placed i h = record { in-x = omega (arith, f .columns .len-x); in-y = omega (arith, f .columns .len-y); inside = f .columns .inside i h }
 
-  pub fit-ruled : (far high : List ℕ) → length far ≡ masterRows → length high ≡ masterRows → (i : ℕ) → i < length ns → Ruled ns xs ys far high i
-  fit-ruled far high e g i h = record { in-n = h; placed = fit-placed i h; in-f = omega (arith, f .most); in-h = omega (arith, f .most) }
+  pub fit-limited : (far high : List ℕ) → length far ≡ masterRows → length high ≡ masterRows → Limited ns xs ys far high
+  fit-limited far high e g = record { columns = f .columns; most = f .most; room-f = e; room-h = g }
 
 module _ (an : List ℕ) (ax ay : List ℤ) (ac bn : List ℕ) (bx by : List ℤ) (bc la lb ld lm ia ib af ah bf bh : List ℕ)
     (fa : Fit an ax ay ac) (fb : Fit bn bx by bc) (level : Level la lb ld lm ia ib) where
@@ -115,9 +117,7 @@ module _ (an : List ℕ) (ax ay : List ℤ) (ac bn : List ℕ) (bx by : List ℤ
         (omega (arith, m k (omega (arith, long s)) (sym (column s k) ∙ e), column (other s) k)) h);
   }
 
-  module _ (order : (k : ℕ) → k + 1 < length ld → Before (pairAt la lb ld k) (pairAt la lb ld (k + 1))) (at-a : Located an la ia) (at-b : Located bn lb ib)
-      (apart : Apart ld ia ib ax ay bx by) (sa : Sided an la lb ld lm ac af ah) (sb : Sided bn lb la ld lm bc bf bh)
-      (shut : (i j : ℕ) → i < length an → j < length bn → Shut an ax ay af ah bn bx by bf bh i j) where
+  module _ (held : Held an ax ay ac bn bx by bc la lb ld lm ia ib af ah bf bh) (shut : (i j : ℕ) → i < length an → j < length bn → Shut an ax ay af ah bn bx by bf bh i j) where
     abbrev N : ℕ → Node
     N = nodeAt an ax ay ac
 
@@ -132,18 +132,18 @@ module _ (an : List ℕ) (ax ay : List ℤ) (ac bn : List ℕ) (bx by : List ℤ
     named = links-all la lb ld lm (Named A B (fa .unique) (fb .unique)) n (λ k h. record {
       v = N (getD ia k 0);
       w = M (getD ib k 0);
-      in-a = node-in an ax ay ac (getD ia k 0) (at-a k h .0);
-      in-b = node-in bn bx by bc (getD ib k 0) (at-b k (in-b k h) .0);
+      in-a = node-in an ax ay ac (getD ia k 0) (held .at-a k h .0);
+      in-b = node-in bn bx by bc (getD ib k 0) (held .at-b k (in-b k h) .0);
       is-pair = λ t. record {
-        distance = apart k (omega (arith, level .of-d)) t;
-        a = sym (at-a k h .1) t;
-        b = sym (at-b k (in-b k h) .1) t;
+        distance = held .apart k (omega (arith, level .of-d)) t;
+        a = sym (held .at-a k h .1) t;
+        b = sym (held .at-b k (in-b k h) .1) t;
       };
     })
 
     within : (s : Master) → All (λ v. used s K (v .number) ≤ v .capacity) (each A B s)
-    within masterA = nodes-all an ax ay ac (λ v. used masterA K (v .number) ≤ v .capacity) (λ i h. rw (used-taken la lb ld lm masterA n (getD an i 0)) (sa .within i h))
-    within masterB = nodes-all bn bx by bc (λ v. used masterB K (v .number) ≤ v .capacity) (λ j h. rw (used-taken la lb ld lm masterB n (getD bn j 0)) (rw (level .of-b) at (sb .within j h)))
+    within masterA = nodes-all an ax ay ac (λ v. used masterA K (v .number) ≤ v .capacity) (λ i h. rw (used-taken la lb ld lm masterA n (getD an i 0)) (held .side-a .within i h))
+    within masterB = nodes-all bn bx by bc (λ v. used masterB K (v .number) ≤ v .capacity) (λ j h. rw (used-taken la lb ld lm masterB n (getD bn j 0)) (rw (level .of-b) at (held .side-b .within j h)))
 
     shut-pair : (i j : ℕ) → i < length an → j < length bn → checked.Shut A B (fa .unique) (fb .unique) K (N i) (M j)
     unfolding pair distance across
@@ -153,15 +153,15 @@ module _ (an : List ℕ) (ax ay : List ℤ) (ac bn : List ℕ) (bx by : List ℤ
         fits = across-fits ax ay bx by i j (fit-placed an ax ay ac fa i h) (fit-placed bn bx by bc fb j g)
 
         go : Dec (across ax ay bx by i j + late (getD bn j 0) (getD ah i 0) ≤ getD af i 0) → checked.Shut A B (fa .unique) (fb .unique) K (N i) (M j)
-        go (no z) = shut-by masterA (N i) (M j) (getD af i 0) (getD ah i 0) fits (sa .limits i h) z
-        go (yes z) = shut-by masterB (N i) (M j) (getD bf j 0) (getD bh j 0) fits (sb .limits j g) (shut i j h g z)
+        go (no z) = shut-by masterA (N i) (M j) (getD af i 0) (getD ah i 0) fits (held .side-a .limits i h) z
+        go (yes z) = shut-by masterB (N i) (M j) (getD bf j 0) (getD bh j 0) fits (held .side-b .limits j g) (shut i j h g z)
 
     pub whole : K ≡ join A B
     unfolding linksOf
     whole = checked.links-shut A B (fa .unique) (fb .unique) K (record {
       named = named;
-      ordered = increasing-tabulate (linkAt la lb ld lm) 0 n (λ k l h. order k (omega (arith, level .of-d)));
-      positive = links-all la lb ld lm (λ l. 1 ≤ l .amount) n (sa .amounts);
+      ordered = increasing-tabulate (linkAt la lb ld lm) 0 n (λ k l h. held .order k (omega (arith, level .of-d)));
+      positive = links-all la lb ld lm (λ l. 1 ≤ l .amount) n (held .side-a .amounts);
       within = within;
     })
         (nodes-all an ax ay ac (λ v. All (λ w. checked.Shut A B (fa .unique) (fb .unique) K v w) B) (λ i h.

@@ -1,29 +1,55 @@
 -- `pairing::edit::rewrite` meets its contract: the rows in common stay, the part from there on comes back written. Assumes nothing.
-use Prim.Native.Nat.{_*_, _≤_}
-use native.Mathlib.Omega.{arith}
+use mathlib.Core.Path.{_∙_, sym}
+use Prim.Native.Nat.{ℕ, _*_, _≤_}
+use lib.ListN.{length-replicate}
 use Rattle.tables.specs.Definitions.Sizes.{linkSize}
 use Rattle.tables.specs.Laws.ListRead.{bytes-known}
 use Rattle.tables.specs.Laws.ListCode.{tail-back}
+use Rattle.pairing.specs.Laws.Checked.{cut-even}
 use Rattle.pairing.specs.Laws.Verdicts.{joined-long}
 use Rattle.pairing.specs.Laws.Edited.{kept-low, rewritten}
+use native.Mathlib.Omega.{arith}
+use lib.Seq.{length-take-le}
 use borrow.Author.Needs.{needs}
 use Rattle.pairing.proofs.edit.rewrite.Statement.{statement}
 use Rattle.pairing.proofs.edit.rewrite.Tie as tie
 
+-- No more rows are kept than there are links.
+kept : (c : tie.After-common-rows) → c .common-rows .result ≤ c .before .before .before .before .before .before .before .before .before .before .before .before .before .before .before .before .before .before .before .before .before .revised .result
+kept c = let x = c .before .before .before .before .before .before .before .before .before .before .before .before .before .before .before .before .before .before .before .before .before .before .before .before .before .before .before .before .before .before .before .before .before .before .before .before .before .before .before .before .before .before .before .before .before .before .before .before .before .before .before .before .before .before .before .before .args in kept-low (x .a .now) (x .b .now) (c .before .before .before .before .before .before .before .before .before .before .before .before .before .before .before .before .before .before .before .before .before .before .before .before .before .before .before .before .before .before .before .before .before .before .before .before .before .before .before .before .before .before .before .before .before .before .before .before .before .before .before .before .before .before .before .before .pre .0 .0) (bytes-known (x .a .now) (c .before .before .before .before .before .before .before .before .before .before .before .before .before .before .before .before .before .before .before .before .before .before .before .before .before .before .before .before .before .before .before .before .before .before .before .before .before .before .before .before .before .before .before .before .before .before .before .before .before .before .before .before .before .before .before .shared-slice-known .given)) (bytes-known (x .b .now) (c .before .before .before .before .before .before .before .before .before .before .before .before .before .before .before .before .before .before .before .before .before .before .before .before .before .before .before .before .before .before .before .before .before .before .before .before .before .before .before .before .before .before .before .before .before .before .before .before .before .before .before .before .before .before .shared-slice-known2 .given)) (x .list .now) (x .la .now) (x .lb .now) (x .ld .now) (x .lm .now) (x .n) _ _ _ _ _ (c .before .before .before .before .before .before .before .before .before .before .before .before .before .before .before .before .before .before .before .before .before .revised .ensures) _ (c .common-rows .ensures .0)
+
 slice-aggregate-revised : tie.Need-slice-aggregate-revised
-slice-aggregate-revised c = search needs
+slice-aggregate-revised c = sym (length-take-le _ _ (omega (arith, c .before .before .before .before .before .before .before .before .before .before .before .before .before .before .before .before .before .before .before .before .pre .1 .2, c .before .before .before .before .before .before .before .before .before .before .before .before .before .before .before .before .before .before .before .before .pre .0 .3)))
 
 slice-aggregate-revised-2 : tie.Need-slice-aggregate-revised-2
-slice-aggregate-revised-2 c = search needs
+slice-aggregate-revised-2 c = sym (length-take-le _ _ (omega (arith, c .before .before .before .before .before .before .before .before .before .before .before .before .before .before .before .before .before .before .before .before .before .before .before .before .pre .1 .3, c .before .before .before .before .before .before .before .before .before .before .before .before .before .before .before .before .before .before .before .before .before .before .before .before .pre .0 .3)))
 
 slice-aggregate-revised-3 : tie.Need-slice-aggregate-revised-3
-slice-aggregate-revised-3 c = search needs
+slice-aggregate-revised-3 c = sym (length-take-le _ _ (c .before .before .before .before .before .before .before .before .before .before .before .before .before .before .before .before .before .before .before .before .before .before .before .before .before .before .before .pre .0 .2 .a))
 
 slice-aggregate-revised-4 : tie.Need-slice-aggregate-revised-4
-slice-aggregate-revised-4 c = search needs
+slice-aggregate-revised-4 c = sym (length-take-le _ _ (c .before .before .before .before .before .before .before .before .before .before .before .before .before .before .before .before .before .before .before .before .before .before .before .before .before .before .before .before .pre .0 .2 .b))
+
+slice-aggregate-revised-5 : tie.Need-slice-aggregate-revised-5
+slice-aggregate-revised-5 c = sym (length-take-le _ _ (c .before .before .before .before .before .before .before .before .before .before .before .before .before .before .before .before .before .before .before .before .before .before .before .before .before .before .before .before .before .pre .0 .2 .distance))
+
+slice-aggregate-revised-6 : tie.Need-slice-aggregate-revised-6
+slice-aggregate-revised-6 c = sym (length-take-le _ _ (c .before .before .before .before .before .before .before .before .before .before .before .before .before .before .before .before .before .before .before .before .before .before .before .before .before .before .before .before .before .before .pre .0 .2 .amount))
+
+slice-aggregate-revised-7 : tie.Need-slice-aggregate-revised-7
+slice-aggregate-revised-7 c = search needs
+
+slice-aggregate-revised-8 : tie.Need-slice-aggregate-revised-8
+slice-aggregate-revised-8 c = search needs
+
+slice-aggregate-revised-9 : tie.Need-slice-aggregate-revised-9
+slice-aggregate-revised-9 c = search needs
+
+slice-aggregate-revised-10 : tie.Need-slice-aggregate-revised-10
+slice-aggregate-revised-10 c = search needs
 
 revised-requires : tie.Need-revised-requires
-revised-requires c κs = let p = c .before .before .before .before .before .before .before .before .before .before .before .before .pre in ((p .0, p .4), (p .2, p .3, record { in-a = search needs; in-b = search needs; in-d = search needs; in-m = search needs }))
+revised-requires c κs = let p = c .before .before .before .before .before .before .before .before .before .before .before .before .before .before .before .before .before .before .before .before .before .before .before .before .before .before .before .before .before .before .before .before .before .before .pre in let l = p .0 .2 in ((p .0 .0, p .0 .4, p .1 .0), (p .1 .1, (cut-even _ _ _ _ _ l (p .0 .3), length-take-le _ _ (omega (arith, p .1 .2, p .0 .3)) ∙ sym (length-take-le _ _ (l .a)), length-take-le _ _ (omega (arith, p .1 .3, p .0 .3)) ∙ sym (length-take-le _ _ (l .a)), record { in-a = length-replicate {A = ℕ} 1023 0; in-b = length-replicate {A = ℕ} 1023 0; in-d = length-replicate {A = ℕ} 1023 0; in-m = length-replicate {A = ℕ} 1023 0 })))
 
 slice-aggregate-common-rows : tie.Need-slice-aggregate-common-rows
 slice-aggregate-common-rows c = search needs
@@ -38,23 +64,16 @@ slice-aggregate-common-rows-4 : tie.Need-slice-aggregate-common-rows-4
 slice-aggregate-common-rows-4 c = search needs
 
 common-rows-requires : tie.Need-common-rows-requires
-common-rows-requires c κs = search needs
-
--- No more rows are kept than there are links.
-kept : (c : tie.After-common-rows) → c .common-rows .result ≤ c .before .before .before .before .before .before .before .before .before .revised .result
-kept c =
-    let x = c .before .before .before .before .before .before .before .before .before .before .before .before .before .before .before .before .before .before .before .before .before .before .args in
-    let j = c .before .before .before .before .before .before .before .before .before .revised .ensures in
-    kept-low (x .a .now) (x .b .now) (c .before .before .before .before .before .before .before .before .before .before .before .before .before .before .before .before .before .before .before .before .before .before .pre .0) (bytes-known (x .a .now) (c .before .before .before .before .before .before .before .before .before .before .before .before .before .before .before .before .before .before .before .before .before .shared-slice-known .given)) (bytes-known (x .b .now) (c .before .before .before .before .before .before .before .before .before .before .before .before .before .before .before .before .before .before .before .before .shared-slice-known2 .given)) (x .list .now) (x .la .now) (x .lb .now) (x .ld .now) (x .lm .now) (x .n) _ _ _ _ _ j _ (c .common-rows .ensures .0)
+common-rows-requires c κs = let x = c .before .before .before .before .before .before .before .before .before .before .before .before .before .before .before .before .before .before .before .before .before .before .before .before .before .before .before .before .before .before .before .before .before .before .before .before .before .before .before .before .before .before .before .before .before .before .before .before .before .before .before .before .before .before .before .args in (c .before .before .before .before .before .before .before .before .before .before .before .before .before .before .before .before .before .before .before .before .before .before .before .before .before .before .before .before .before .before .before .before .before .before .before .before .before .before .before .before .before .before .before .before .before .before .before .before .before .before .before .before .before .before .before .pre .0 .2, joined-long (x .a .now) (x .b .now) (c .before .before .before .before .before .before .before .before .before .before .before .before .before .before .before .before .before .before .before .before .before .before .before .before .before .before .before .before .before .before .before .before .before .before .before .before .before .before .before .before .before .before .before .before .before .before .before .before .before .before .before .before .before .before .before .pre .0 .0) (bytes-known (x .a .now) (c .before .before .before .before .before .before .before .before .before .before .before .before .before .before .before .before .before .before .before .before .before .before .before .before .before .before .before .before .before .before .before .before .before .before .before .before .before .before .before .before .before .before .before .before .before .before .before .before .before .before .before .before .before .before .shared-slice-known .given)) (bytes-known (x .b .now) (c .before .before .before .before .before .before .before .before .before .before .before .before .before .before .before .before .before .before .before .before .before .before .before .before .before .before .before .before .before .before .before .before .before .before .before .before .before .before .before .before .before .before .before .before .before .before .before .before .before .before .before .before .before .shared-slice-known2 .given)) (x .list .now) _ _ _ _ _ (c .before .before .before .before .before .before .before .before .before .before .before .before .before .before .before .before .before .before .before .before .revised .ensures))
 
 mul-at : tie.Need-mul-at
-mul-at c = record { fits = omega (arith, kept c, c .before .before .before .before .before .before .before .before .before .revised .ensures .most) }
+mul-at c = record { fits = omega (arith, kept c, c .before .before .before .before .before .before .before .before .before .before .before .before .before .before .before .before .before .before .before .before .before .revised .ensures .most) }
 
 sub-write-links : tie.Need-sub-write-links
-sub-write-links c = omega (arith, kept c, c .before .before .before .before .before .before .before .before .before .revised .ensures .most, c .before .before .before .before .before .before .before .before .before .before .before .before .before .before .before .before .before .before .before .before .before .before .pre .1)
+sub-write-links c = omega (arith, kept c, c .before .before .before .before .before .before .before .before .before .before .before .before .before .before .before .before .before .before .before .before .before .revised .ensures .most, c .before .before .before .before .before .before .before .before .before .before .before .before .before .before .before .before .before .before .before .before .before .before .before .before .before .before .before .before .before .before .before .before .before .before .before .before .before .before .before .before .before .before .before .before .before .before .before .before .before .before .before .before .before .before .before .before .pre .0 .1)
 
 part-write-links-start : tie.Need-part-write-links-start
-part-write-links-start c = omega (arith, kept c, c .before .before .before .before .before .before .before .before .before .revised .ensures .most, c .before .before .before .before .before .before .before .before .before .before .before .before .before .before .before .before .before .before .before .before .before .before .pre .1)
+part-write-links-start c = omega (arith, kept c, c .before .before .before .before .before .before .before .before .before .before .before .before .before .before .before .before .before .before .before .before .before .revised .ensures .most, c .before .before .before .before .before .before .before .before .before .before .before .before .before .before .before .before .before .before .before .before .before .before .before .before .before .before .before .before .before .before .before .before .before .before .before .before .before .before .before .before .before .before .before .before .before .before .before .before .before .before .before .before .before .before .before .before .pre .0 .1)
 
 part-write-links-end : tie.Need-part-write-links-end
 part-write-links-end c = search needs
@@ -72,21 +91,31 @@ slice-aggregate-write-links-4 : tie.Need-slice-aggregate-write-links-4
 slice-aggregate-write-links-4 c = search needs
 
 write-links-requires : tie.Need-write-links-requires
-write-links-requires c κs =
-    let x = c .before .before .before .before .before .before .before .before .before .before .before .before .before .before .before .before .before .before .before .before .before .before .before .before .before .before .before .args in
-    let j = c .before .before .before .before .before .before .before .before .before .before .before .before .before .before .revised .ensures in
-    let k = kept (c .before .before .before .before .before) in
-    ((omega (arith, k, j .most, c .before .before .before .before .before .before .before .before .before .before .before .before .before .before .before .before .before .before .before .before .before .before .before .before .before .before .before .pre .1), k, j .most), joined-long (x .a .now) (x .b .now) (c .before .before .before .before .before .before .before .before .before .before .before .before .before .before .before .before .before .before .before .before .before .before .before .before .before .before .before .pre .0) (bytes-known (x .a .now) (c .before .before .before .before .before .before .before .before .before .before .before .before .before .before .before .before .before .before .before .before .before .before .before .before .before .before .shared-slice-known .given)) (bytes-known (x .b .now) (c .before .before .before .before .before .before .before .before .before .before .before .before .before .before .before .before .before .before .before .before .before .before .before .before .before .shared-slice-known2 .given)) (x .list .now) _ _ _ _ _ j)
+write-links-requires c κs = let x = c .before .before .before .before .before .before .before .before .before .before .before .before .before .before .before .before .before .before .before .before .before .before .before .before .before .before .before .before .before .before .before .before .before .before .before .before .before .before .before .before .before .before .before .before .before .before .before .before .before .before .before .before .before .before .before .before .before .before .before .before .before .args in let j = c .before .before .before .before .before .before .before .before .before .before .before .before .before .before .before .before .before .before .before .before .before .before .before .before .before .before .revised .ensures in let k = kept (c .before .before .before .before .before) in ((omega (arith, k, j .most, c .before .before .before .before .before .before .before .before .before .before .before .before .before .before .before .before .before .before .before .before .before .before .before .before .before .before .before .before .before .before .before .before .before .before .before .before .before .before .before .before .before .before .before .before .before .before .before .before .before .before .before .before .before .before .before .before .before .before .before .before .before .pre .0 .1), k, j .most), joined-long (x .a .now) (x .b .now) (c .before .before .before .before .before .before .before .before .before .before .before .before .before .before .before .before .before .before .before .before .before .before .before .before .before .before .before .before .before .before .before .before .before .before .before .before .before .before .before .before .before .before .before .before .before .before .before .before .before .before .before .before .before .before .before .before .before .before .before .before .before .pre .0 .0) (bytes-known (x .a .now) (c .before .before .before .before .before .before .before .before .before .before .before .before .before .before .before .before .before .before .before .before .before .before .before .before .before .before .before .before .before .before .before .before .before .before .before .before .before .before .before .before .before .before .before .before .before .before .before .before .before .before .before .before .before .before .before .before .before .before .before .before .shared-slice-known .given)) (bytes-known (x .b .now) (c .before .before .before .before .before .before .before .before .before .before .before .before .before .before .before .before .before .before .before .before .before .before .before .before .before .before .before .before .before .before .before .before .before .before .before .before .before .before .before .before .before .before .before .before .before .before .before .before .before .before .before .before .before .before .before .before .before .before .before .shared-slice-known2 .given)) (x .list .now) _ _ _ _ _ j)
 
 same-length : tie.Need-same-length
 same-length c = search needs
 
+same-length-2 : tie.Need-same-length-2
+same-length-2 c = c .before .before .before .before .before .before .before .before .before .before .before .before .before .before .before .before .before .before .before .before .before .before .before .before .before .before .before .before .ac .given
+
+same-length-3 : tie.Need-same-length-3
+same-length-3 c = c .before .before .before .before .before .before .before .before .before .before .before .before .before .before .before .before .before .before .before .before .before .before .before .before .before .before .af .given
+
+same-length-4 : tie.Need-same-length-4
+same-length-4 c = c .before .before .before .before .before .before .before .before .before .before .before .before .before .before .before .before .before .before .before .before .before .before .before .before .ah .given
+
+same-length-5 : tie.Need-same-length-5
+same-length-5 c = c .before .before .before .before .before .before .before .before .before .before .before .before .before .before .before .before .before .before .before .before .before .before .bc .given
+
+same-length-6 : tie.Need-same-length-6
+same-length-6 c = c .before .before .before .before .before .before .before .before .before .before .before .before .before .before .before .before .before .before .before .before .bf .given
+
+same-length-7 : tie.Need-same-length-7
+same-length-7 c = c .before .before .before .before .before .before .before .before .before .before .before .before .before .before .before .before .before .before .bh .given
+
 returns : tie.Need-returns
-returns c =
-    let x = c .before .before .before .before .before .before .before .before .before .before .before .before .before .before .before .before .before .before .before .before .before .before .before .before .before .before .before .before .before .before .args in
-    let j = c .before .before .before .before .before .before .before .before .before .before .before .before .before .before .before .before .before .revised .ensures in
-    let k = kept (c .before .before .before .before .before .before .before .before) in
-    rewritten (x .a .now) (x .b .now) (c .before .before .before .before .before .before .before .before .before .before .before .before .before .before .before .before .before .before .before .before .before .before .before .before .before .before .before .before .before .before .pre .0) (bytes-known (x .a .now) (c .before .before .before .before .before .before .before .before .before .before .before .before .before .before .before .before .before .before .before .before .before .before .before .before .before .before .before .before .before .shared-slice-known .given)) (bytes-known (x .b .now) (c .before .before .before .before .before .before .before .before .before .before .before .before .before .before .before .before .before .before .before .before .before .before .before .before .before .before .before .before .shared-slice-known2 .given)) (x .list .now) (x .la .now) (x .lb .now) (x .ld .now) (x .lm .now) (x .n) _ _ _ _ _ j _ (c .before .before .before .before .before .before .before .before .common-rows .ensures .0) _ _ (c .before .before .write-links .ensures) (tail-back (linkSize * (c .before .before .before .before .before .before .before .before .common-rows .result)) (x .list .now) _ (omega (arith, k, j .most, c .before .before .before .before .before .before .before .before .before .before .before .before .before .before .before .before .before .before .before .before .before .before .before .before .before .before .before .before .before .before .pre .1)))
+returns c = let x = c .before .before .before .before .before .before .before .before .before .before .before .before .before .before .before .before .before .before .before .before .before .before .before .before .before .before .before .before .before .before .before .before .before .before .before .before .before .before .before .before .before .before .before .before .before .before .before .before .before .before .before .before .before .before .before .before .before .before .before .before .before .before .before .before .args in let j = c .before .before .before .before .before .before .before .before .before .before .before .before .before .before .before .before .before .before .before .before .before .before .before .before .before .before .before .before .before .revised .ensures in let k = kept (c .before .before .before .before .before .before .before .before) in rewritten (x .a .now) (x .b .now) (c .before .before .before .before .before .before .before .before .before .before .before .before .before .before .before .before .before .before .before .before .before .before .before .before .before .before .before .before .before .before .before .before .before .before .before .before .before .before .before .before .before .before .before .before .before .before .before .before .before .before .before .before .before .before .before .before .before .before .before .before .before .before .before .before .pre .0 .0) (bytes-known (x .a .now) (c .before .before .before .before .before .before .before .before .before .before .before .before .before .before .before .before .before .before .before .before .before .before .before .before .before .before .before .before .before .before .before .before .before .before .before .before .before .before .before .before .before .before .before .before .before .before .before .before .before .before .before .before .before .before .before .before .before .before .before .before .before .before .before .shared-slice-known .given)) (bytes-known (x .b .now) (c .before .before .before .before .before .before .before .before .before .before .before .before .before .before .before .before .before .before .before .before .before .before .before .before .before .before .before .before .before .before .before .before .before .before .before .before .before .before .before .before .before .before .before .before .before .before .before .before .before .before .before .before .before .before .before .before .before .before .before .before .before .before .shared-slice-known2 .given)) (x .list .now) (x .la .now) (x .lb .now) (x .ld .now) (x .lm .now) (x .n) _ _ _ _ _ j _ (c .before .before .before .before .before .before .before .before .common-rows .ensures .0) _ _ (c .before .before .write-links .ensures) (tail-back (linkSize * (c .before .before .before .before .before .before .before .before .common-rows .result)) (x .list .now) _ (omega (arith, k, j .most, c .before .before .before .before .before .before .before .before .before .before .before .before .before .before .before .before .before .before .before .before .before .before .before .before .before .before .before .before .before .before .before .before .before .before .before .before .before .before .before .before .before .before .before .before .before .before .before .before .before .before .before .before .before .before .before .before .before .before .before .before .before .before .before .before .pre .0 .1)))
 
 pub rewrite-spec : {M : Type 1} → statement M
 rewrite-spec =
@@ -96,6 +125,12 @@ rewrite-spec =
     slice-aggregate-revised-2
     slice-aggregate-revised-3
     slice-aggregate-revised-4
+    slice-aggregate-revised-5
+    slice-aggregate-revised-6
+    slice-aggregate-revised-7
+    slice-aggregate-revised-8
+    slice-aggregate-revised-9
+    slice-aggregate-revised-10
     revised-requires
     slice-aggregate-common-rows
     slice-aggregate-common-rows-2
@@ -112,4 +147,10 @@ rewrite-spec =
     slice-aggregate-write-links-4
     write-links-requires
     same-length
+    same-length-2
+    same-length-3
+    same-length-4
+    same-length-5
+    same-length-6
+    same-length-7
     returns)

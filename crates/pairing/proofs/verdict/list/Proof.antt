@@ -1,6 +1,5 @@
-use Rattle.pairing.specs.Laws.Verdicts.{tables-sound, list-refused}
 -- `pairing::verdict::list` meets its contract: the tables, and then the list. Assumes nothing.
-use Rattle.pairing.specs.Laws.Verdicts.{list-refused}
+use Rattle.pairing.specs.Laws.Verdicts.{tables-sound, list-refused}
 use borrow.Author.Needs.{needs}
 use Rattle.pairing.proofs.verdict.list.Statement.{statement}
 use Rattle.pairing.proofs.verdict.list.Tie as tie
@@ -11,8 +10,8 @@ tables-requires c κs = search needs
 enum-told : tie.Need-enum-told
 enum-told c = search needs
 
-review-requires : tie.Need-review-requires
-review-requires c κs = let x = c .before .before .before .before .before .before .before .before .before .before .before .before .before .before .args in (tables-sound (x .a .now) (x .b .now) (x .list .now) (c .before .before .before .before .before .before .tables .result) (c .before .before .before .before .before .match .keys1) (c .before .before .before .before .before .before .tables .ensures), c .before .before .before .before .before .before .before .before .before .before .before .before .before .before .pre)
+read-requires : tie.Need-read-requires
+read-requires c κs = let x = c .before .before .before .before .before .before .before .before .before .before .before .before .before .before .args in (tables-sound (x .a .now) (x .b .now) (x .list .now) (c .before .before .before .before .before .before .tables .result) (c .before .before .before .before .before .match .keys1) (c .before .before .before .before .before .before .tables .ensures), c .before .before .before .before .before .before .before .before .before .before .before .before .before .before .pre)
 
 same-length : tie.Need-same-length
 same-length c = search needs
@@ -30,9 +29,7 @@ returns : tie.Need-returns
 returns c = search needs
 
 returns-2 : tie.Need-returns-2
-returns-2 c =
-    let x = c .before .before .before .before .before .before .before .before .before .args in
-    list-refused (x .a .now) (x .b .now) (x .list .now) (x .la .now) (x .lb .now) (x .ld .now) (x .lm .now) (c .before .tables .result) (c .match .keys2) (c .before .tables .ensures)
+returns-2 c = let x = c .before .before .before .before .before .before .before .before .before .args in list-refused (x .a .now) (x .b .now) (x .list .now) (x .la .now) (x .lb .now) (x .ld .now) (x .lm .now) (c .before .tables .result) (c .match .keys2) (c .before .tables .ensures)
 
 pub list-spec : {M : Type 1} → statement M
 list-spec =
@@ -40,7 +37,7 @@ list-spec =
     (tie.spec
     tables-requires
     enum-told
-    review-requires
+    read-requires
     same-length
     same-length-2
     same-length-3

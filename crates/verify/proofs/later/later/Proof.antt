@@ -1,0 +1,58 @@
+-- `later::later` meets its contract: keys are in the order of limits. Assumes nothing.
+use borrow.Author.Tests.{ltb-true, ltb-false}
+use native.Mathlib.Omega.{arith}
+use borrow.Author.Needs.{needs}
+use Rattle.verify.proofs.later.later.Statement.{statement}
+use Rattle.verify.proofs.later.later.Tie as tie
+
+mul-pack : tie.Need-mul-pack
+mul-pack c = search needs
+
+shared-slice-read-pack : tie.Need-shared-slice-read-pack
+shared-slice-read-pack c = search needs
+
+mul-pack-2 : tie.Need-mul-pack-2
+mul-pack-2 c = search needs
+
+shared-slice-read-pack-2 : tie.Need-shared-slice-read-pack-2
+shared-slice-read-pack-2 c = search needs
+
+pack-requires : tie.Need-pack-requires
+pack-requires c κs = search needs
+
+mul-pack-3 : tie.Need-mul-pack-3
+mul-pack-3 c = search needs
+
+shared-slice-read-pack-3 : tie.Need-shared-slice-read-pack-3
+shared-slice-read-pack-3 c = search needs
+
+mul-pack-4 : tie.Need-mul-pack-4
+mul-pack-4 c = search needs
+
+shared-slice-read-pack-4 : tie.Need-shared-slice-read-pack-4
+shared-slice-read-pack-4 c = search needs
+
+pack-requires-2 : tie.Need-pack-requires-2
+pack-requires-2 c κs = search needs
+
+returns : tie.Need-returns
+returns c =
+    let o = c .before .before .before .pack .ensures in
+    let n = c .pack2 .ensures in
+    (λ w. omega (arith, ltb-true, o .is, n .is), λ w. record { small = o .small; least = omega (arith, ltb-false, o .is, n .is) })
+
+pub later-spec : {M : Type 1} → statement M
+later-spec =
+    tie.close
+    (tie.spec
+    mul-pack
+    shared-slice-read-pack
+    mul-pack-2
+    shared-slice-read-pack-2
+    pack-requires
+    mul-pack-3
+    shared-slice-read-pack-3
+    mul-pack-4
+    shared-slice-read-pack-4
+    pack-requires-2
+    returns)

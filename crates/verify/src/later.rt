@@ -1,0 +1,66 @@
+// Which places have a later limit than before: far and high were the limits, nf and nh are.
+ghost use Prim.Native.Nat.{ℕ, _<_, _≤_};
+ghost use mathlib.Core.Path.{_≡_};
+ghost use mathlib.Core.Bool.{true, false};
+ghost use lib.ListN.{length};
+ghost use Rattle.join.specs.Sizes.{masterRows};
+ghost use Rattle.verify.specs.Later.{Known, Later, Kept, Listed, Moved};
+use join::nearest::pack;
+
+// Place i has.
+fn later(i: usize, far: &[u32], high: &[u32], nf: &[u32], nh: &[u32]) -> bool
+    requires { ⌜ Known (now far) (now high) (now nf) (now nh) i ⌝ }
+    ensures { λ r. ⌜ (r ≡ true → Later (now (far .entry)) (now (high .entry)) (now (nf .entry)) (now (nh .entry)) i) × (r ≡ false → Kept (now (far .entry)) (now (high .entry)) (now (nf .entry)) (now (nh .entry)) i) ⌝ }
+{
+    pack(far[i], high[i]) < pack(nf[i], nh[i])
+}
+
+// Lists the places below n that have; gives how many these are.
+pub fn list(
+    n: usize,
+    far: &[u32],
+    high: &[u32],
+    nf: &[u32],
+    nh: &[u32],
+    places: &mut [u16],
+) -> usize
+    requires { ⌜ (n ≤ masterRows) × (length (now places) ≡ masterRows) × ((i : ℕ) → i < n → Known (now far) (now high) (now nf) (now nh) i) ⌝ }
+    ensures { λ r. ⌜ Listed (now (far .entry)) (now (high .entry)) (now (nf .entry)) (now (nh .entry)) n r (now (places .exit)) ⌝ }
+{
+    let mut count = 0;
+    let mut i = 0;
+    while i < n {
+        places[count] = i as u16;
+        if later(i, far, high, nf, nh) {
+            count += 1;
+        }
+        i += 1;
+    }
+    count
+}
+
+// Place i has, or its limit shuts all its pairs.
+fn moved(i: usize, far: &[u32], high: &[u32], nf: &[u32], nh: &[u32]) -> bool
+    requires { ⌜ Known (now far) (now high) (now nf) (now nh) i ⌝ }
+    ensures { λ r. ⌜ (r ≡ true → Moved (now (far .entry)) (now (high .entry)) (now (nf .entry)) (now (nh .entry)) i) ⌝ }
+{
+    if later(i, far, high, nf, nh) {
+        return true;
+    }
+    pack(nf[i], nh[i]) == 0
+}
+
+// Each place below n has, or its limit shuts all its pairs.
+pub fn all(n: usize, far: &[u32], high: &[u32], nf: &[u32], nh: &[u32]) -> bool
+    requires { ⌜ ((i : ℕ) → i < n → Known (now far) (now high) (now nf) (now nh) i) ⌝ }
+    ensures { λ r. ⌜ (r ≡ true → (i : ℕ) → i < n → Moved (now (far .entry)) (now (high .entry)) (now (nf .entry)) (now (nh .entry)) i) ⌝ }
+{
+    let mut i = 0;
+    while i < n {
+        if !moved(i, far, high, nf, nh) {
+            return false;
+        }
+        i += 1;
+    }
+    true
+}
