@@ -12,6 +12,7 @@ pub fn key(distance: u32, number: u16) -> u64 {
 }
 
 /// The box around the nodes of a block, and the least number among them.
+#[derive(Clone)]
 pub struct Bounds {
     left: i32,
     right: i32,
@@ -21,7 +22,7 @@ pub struct Bounds {
 }
 
 impl Bounds {
-    fn around(nodes: &[Node]) -> Bounds {
+    pub fn around<'a>(nodes: impl Iterator<Item = &'a Node>) -> Bounds {
         let none = Bounds {
             left: i32::MAX,
             right: i32::MIN,
@@ -29,7 +30,7 @@ impl Bounds {
             high: i32::MIN,
             least: u16::MAX,
         };
-        nodes.iter().fold(none, |bounds, node| Bounds {
+        nodes.fold(none, |bounds, node| Bounds {
             left: bounds.left.min(node.x),
             right: bounds.right.max(node.x),
             low: bounds.low.min(node.y),
@@ -81,7 +82,8 @@ pub struct Blocks {
 
 impl Blocks {
     pub fn fill(&mut self, nodes: &[Node]) {
-        refill(&mut self.bounds, nodes.chunks(BLOCK).map(Bounds::around));
+        let blocks = nodes.chunks(BLOCK).map(|block| block.iter());
+        refill(&mut self.bounds, blocks.map(Bounds::around));
     }
 
     /// The nearest partner, ties by number, among those that are open in each block; the one given where none comes

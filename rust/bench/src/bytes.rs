@@ -20,6 +20,10 @@ impl Node {
         across.pow(2) as u32 + up.pow(2) as u32
     }
 
+    pub fn same_place(&self, other: &Node) -> bool {
+        (self.x, self.y) == (other.x, other.y)
+    }
+
     fn read(row: &[u8]) -> Node {
         Node {
             number: u16_at(row, 0),

@@ -1,9 +1,13 @@
 //! A lent list checked without a join: its rows one by one, and then the pairs
-//! for one that the list passed over wrongly, a node of A and a block of B at a time.
+//! for one that the list passed over wrongly, a node of one master and a block of the other at a time.
 //!
 //! A pair is open where it is earlier than the last link of both its nodes; a
 //! node with something left has no last one. Amounts that are within all
-//! capacities and leave no pair open are the join's alone.
+//! capacities and leave no pair open are the join's alone. A check keeps these
+//! limits: in the next one, after an edit, only a pair with a node whose limit
+//! is later than the one kept can be open.
+
+use std::mem;
 
 use model::sizes::LINK_BYTES;
 
@@ -16,12 +20,49 @@ struct Side {
     lefts: Vec<u16>,
     /// The key of its partner in its last link; none is too late where something is left.
     limits: Vec<u64>,
+    /// Limits with which no pair is open, and the nodes that they are of.
+    known: Vec<u64>,
+    nodes: Vec<Node>,
+    /// The places whose limit is later than the known one.
+    later: Vec<usize>,
 }
 
 impl Side {
     fn fill(&mut self, nodes: &[Node]) {
         refill(&mut self.lefts, nodes.iter().map(|node| node.left));
         refill(&mut self.limits, nodes.iter().map(|_| u64::MAX));
+    }
+
+    /// Nothing is known: the least limits, with which no pair is open.
+    fn forget(&mut self, nodes: &[Node]) {
+        refill(&mut self.known, nodes.iter().map(|_| 0));
+    }
+
+    /// What the last check made sure of holds for nodes that are where they were.
+    fn carry(&mut self, master: &Master) {
+        if master.nodes == self.nodes {
+            return;
+        }
+        let kept = mem::take(&mut self.known);
+        self.forget(&master.nodes);
+        for (node, limit) in self.nodes.iter().zip(kept) {
+            if let Some(place) = master.place_of(node.number) {
+                if master.nodes[place].same_place(node) {
+                    self.known[place] = limit;
+                }
+            }
+        }
+    }
+
+    fn keep(&mut self, nodes: &[Node]) {
+        self.known.clone_from(&self.limits);
+        refill(&mut self.nodes, nodes.iter().copied());
+    }
+
+    fn find_later(&mut self) {
+        let limits = self.limits.iter().zip(&self.known).enumerate();
+        let later = limits.filter(|(_, (limit, known))| limit > known);
+        refill(&mut self.later, later.map(|(place, _)| place));
     }
 
     /// The limit holds once nothing is left.
@@ -33,7 +74,7 @@ impl Side {
     }
 }
 
-/// A block of B in columns, so that one pass takes several nodes at a time. Lanes without a node have the limit 0,
+/// A block in columns, so that one pass takes several nodes at a time. Lanes without a node have the limit 0,
 /// before which no pair comes.
 #[derive(Default)]
 struct Lanes {
@@ -60,7 +101,7 @@ impl Lanes {
         lanes
     }
 
-    /// Whether a node of the block is open with this one of A; no branch but the loop's.
+    /// Whether a node of the block is open with this one of the other master; no branch but the loop's.
     fn open_with(&self, node: &Node, limit: u64) -> bool {
         let (x, y, number) = (node.x as i16, node.y as i16, u32::from(node.number));
         let [limit, other] = halves(limit);
@@ -95,17 +136,37 @@ pub struct Check {
 }
 
 impl Check {
-    /// Whether the list is the finished one of two masters; the blocks are of B.
-    pub fn is_finished(&mut self, masters: &[Master; 2], blocks: &Blocks, list: &[u8]) -> bool {
+    /// Whether the list is the finished one of two masters.
+    pub fn is_finished(
+        &mut self,
+        masters: &[Master; 2],
+        blocks: &[Blocks; 2],
+        list: &[u8],
+    ) -> bool {
+        for (side, master) in self.sides.iter_mut().zip(masters) {
+            side.forget(&master.nodes);
+        }
         let rest = &list[rows(list).count() * LINK_BYTES..];
         rest.iter().all(|byte| *byte == 0) && self.is_join(masters, blocks, rows(list))
     }
 
-    /// Whether the links are those of the join of two masters, in pair order; the blocks are of B.
-    pub fn is_join(
+    /// Whether the links are those of the join after an edit, in pair order; the last check said yes to those before it.
+    pub fn is_join_again(
         &mut self,
         masters: &[Master; 2],
-        blocks: &Blocks,
+        blocks: &[Blocks; 2],
+        links: impl Iterator<Item = Link>,
+    ) -> bool {
+        for (side, master) in self.sides.iter_mut().zip(masters) {
+            side.carry(master);
+        }
+        self.is_join(masters, blocks, links)
+    }
+
+    fn is_join(
+        &mut self,
+        masters: &[Master; 2],
+        blocks: &[Blocks; 2],
         links: impl Iterator<Item = Link>,
     ) -> bool {
         for (side, master) in self.sides.iter_mut().zip(masters) {
@@ -118,7 +179,13 @@ impl Check {
             }
             before = link.0;
         }
-        !self.any_open(masters, blocks)
+        if self.any_open(masters, blocks) {
+            return false;
+        }
+        for (side, master) in self.sides.iter_mut().zip(masters) {
+            side.keep(&master.nodes);
+        }
+        true
     }
 
     /// Takes the amount of a link from both its nodes; none if the link is wrong.
@@ -135,16 +202,38 @@ impl Check {
         Some(())
     }
 
-    fn any_open(&mut self, [a, b]: &[Master; 2], blocks: &Blocks) -> bool {
-        let [in_a, in_b] = &self.sides;
-        let parts = b.nodes.chunks(BLOCK).zip(in_b.limits.chunks(BLOCK));
+    /// Blocks serve best around the master whose nodes lie closer together, so the other one's nodes come first; where
+    /// all of these are later than known, every pair has then been looked at.
+    fn any_open(&mut self, masters: &[Master; 2], blocks: &[Blocks; 2]) -> bool {
+        for side in &mut self.sides {
+            side.find_later();
+        }
+        let first = usize::from(spread(&masters[0].nodes) < spread(&masters[1].nodes));
+        let all = self.sides[first].later.len() == masters[first].nodes.len();
+        self.open_from(first, masters, blocks) || !all && self.open_from(1 - first, masters, blocks)
+    }
+
+    /// Whether one of a master's later nodes is open with a node of the other master.
+    fn open_from(&mut self, side: usize, masters: &[Master; 2], blocks: &[Blocks; 2]) -> bool {
+        let other = 1 - side;
+        let nodes = masters[other].nodes.chunks(BLOCK);
+        let parts = nodes.zip(self.sides[other].limits.chunks(BLOCK));
         refill(
             &mut self.lanes,
             parts.map(|(nodes, limits)| Lanes::new(nodes, limits)),
         );
-        let mut ends = a.nodes.iter().zip(&in_a.limits);
-        ends.any(|(node, limit)| open_in_blocks(node, *limit, blocks, &self.lanes))
+        let Side { later, limits, .. } = &self.sides[side];
+        later.iter().any(|place| {
+            let node = &masters[side].nodes[*place];
+            open_in_blocks(node, limits[*place], &blocks[other], &self.lanes)
+        })
     }
+}
+
+/// How far the nodes that follow each other are apart, in all.
+fn spread(nodes: &[Node]) -> u64 {
+    let steps = nodes.iter().zip(nodes.iter().skip(1));
+    steps.map(|(one, next)| u64::from(one.distance(next))).sum()
 }
 
 /// Skips a block where already its bounds come too late for the node, or for all its own nodes.

@@ -6,8 +6,8 @@
 //! be taken; a richer node may also be linked to its nearest open partner, and the
 //! earliest of all these links is the next one.
 
-use crate::blocks::{Blocks, Partner, BLOCK};
-use crate::bytes::{link, parts, refill, Link, Master};
+use crate::blocks::{Blocks, Bounds, Partner, BLOCK};
+use crate::bytes::{link, parts, refill, Link, Master, Node};
 use crate::peer::Edited;
 
 /// The revision gives up beyond these: the chain is then as fast.
@@ -35,20 +35,24 @@ impl After<'_> {
     }
 
     /// The nearest partner that has something left; none if there is no such one.
-    fn nearest(&self, from: End, lefts: &[u16]) -> Option<End> {
+    fn nearest(&self, from: End, left: &mut Left) -> Option<End> {
         let side = 1 - from.side;
         let nodes = &self.masters[side].nodes;
-        let open = |block: usize| {
-            let (first, end) = (block * BLOCK, nodes.len().min((block + 1) * BLOCK));
-            let nodes = (first..).zip(&nodes[first..end]).zip(&lefts[first..end]);
-            nodes.filter_map(|(node, left)| (*left != 0).then_some(node))
-        };
         let from = &self.masters[from.side].nodes[from.place];
-        let nearest = self.blocks[side].nearest(from, Partner::NONE, open);
-        (nearest.key != Partner::NONE.key).then_some(End {
-            side,
-            place: nearest.at,
-        })
+        let mut best = Partner::NONE;
+        for block in 0..left.boxes.len() {
+            if !left.is_near(block, from, best, nodes) {
+                continue;
+            }
+            for (place, node) in left.open(block, nodes) {
+                let partner = Partner::new(from, node, place);
+                if partner.key < best.key {
+                    best = partner;
+                }
+            }
+        }
+        let place = best.at;
+        (best.key != Partner::NONE.key).then_some(End { side, place })
     }
 
     /// Where the link of two nodes stands in pair order.
@@ -63,11 +67,67 @@ impl After<'_> {
     }
 }
 
-/// What each node of a master has left where the revision is.
+/// What each node of a master has left where the revision is, and boxes around those that have something.
 #[derive(Default)]
 struct Left {
     old: Vec<u16>,
     new: Vec<u16>,
+    boxes: Vec<Shrinking>,
+}
+
+/// A block's bounds. Once half of the nodes within are used up they are drawn anew around the others.
+#[derive(Clone)]
+struct Shrinking {
+    bounds: Bounds,
+    /// None where no node has anything left.
+    due: Option<usize>,
+}
+
+impl Shrinking {
+    fn new(bounds: Bounds, open: usize) -> Shrinking {
+        let due = (open > 0).then_some(open.div_ceil(2));
+        Shrinking { bounds, due }
+    }
+}
+
+impl Left {
+    /// The nodes of a block that have something left, with their places.
+    fn open<'a>(
+        &'a self,
+        block: usize,
+        nodes: &'a [Node],
+    ) -> impl Iterator<Item = (usize, &'a Node)> + 'a {
+        let (first, end) = (block * BLOCK, nodes.len().min((block + 1) * BLOCK));
+        let lefts = &self.new[first..end];
+        let nodes = (first..).zip(&nodes[first..end]).zip(lefts);
+        nodes.filter_map(|(node, left)| (*left != 0).then_some(node))
+    }
+
+    /// Whether a node of the block may come before the best so far.
+    fn is_near(&mut self, block: usize, from: &Node, best: Partner, nodes: &[Node]) -> bool {
+        let near = |shrinking: &Shrinking| {
+            let bounds = &shrinking.bounds;
+            shrinking.due.is_some() && bounds.key(bounds.distance(from)) < best.key
+        };
+        if !near(&self.boxes[block]) {
+            return false;
+        }
+        if self.boxes[block].due == Some(0) {
+            let open = || self.open(block, nodes).map(|(_, node)| node);
+            self.boxes[block] = Shrinking::new(Bounds::around(open()), open().count());
+        }
+        near(&self.boxes[block])
+    }
+
+    /// Takes the amount from a node.
+    fn spend(&mut self, place: usize, amount: u16) {
+        let left = &mut self.new[place];
+        *left -= amount;
+        if *left == 0 && amount > 0 {
+            let due = &mut self.boxes[place / BLOCK].due;
+            *due = due.map(|due| due.saturating_sub(1));
+        }
+    }
 }
 
 /// A richer node with its nearest open partner; the key is that of their link.
@@ -108,6 +168,14 @@ impl Revision {
         for (left, master) in self.left.iter_mut().zip(after.masters) {
             refill(&mut left.new, master.nodes.iter().map(|node| node.left));
             left.old.clone_from(&left.new);
+        }
+        for (left, blocks) in self.left.iter_mut().zip(after.blocks) {
+            let sizes = left.new.chunks(BLOCK).map(<[u16]>::len);
+            let boxes = blocks.bounds.iter().cloned().zip(sizes);
+            refill(
+                &mut left.boxes,
+                boxes.map(|(bounds, size)| Shrinking::new(bounds, size)),
+            );
         }
         self.candidates.clear();
         self.searches = 0;
@@ -182,7 +250,7 @@ impl Revision {
             links.push((key, amount));
         }
         for end in ends {
-            self.left[end.side].new[end.place] -= amount;
+            self.left[end.side].spend(end.place, amount);
             self.compare(after, end)?;
         }
         Some(())
@@ -203,8 +271,8 @@ impl Revision {
 
     fn search(&mut self, after: After, richer: End) -> Option<()> {
         self.searches += 1;
-        let lefts = &self.left[1 - richer.side].new;
-        if let Some(partner) = after.nearest(richer, lefts) {
+        let left = &mut self.left[1 - richer.side];
+        if let Some(partner) = after.nearest(richer, left) {
             let key = after.key(richer, partner);
             self.candidates.push(Candidate {
                 key,

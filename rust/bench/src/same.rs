@@ -29,7 +29,7 @@ impl Method for Same {
     }
 
     fn is_finished(&mut self, masters: &[Master; 2], list: &[u8]) -> bool {
-        self.check.is_finished(masters, &self.blocks[1], list)
+        self.check.is_finished(masters, &self.blocks, list)
     }
 
     /// Revised links are kept only where the check says yes to them.
@@ -44,7 +44,7 @@ impl Method for Same {
         let after = After { masters, blocks };
         let revised = self.revision.revise(after, rows(list), edited, links);
         let new = links.iter().copied();
-        if revised.is_none() || !self.check.is_join(masters, &blocks[1], new) {
+        if revised.is_none() || !self.check.is_join_again(masters, blocks, new) {
             self.join(masters, links);
         }
     }

@@ -67,8 +67,8 @@ fn join_without(masters: &[Master; 2], passed: impl Fn(u64) -> bool) -> Vec<Link
 fn says(Arranged { masters, blocks }: &Arranged, links: &[Link]) -> [bool; 2] {
     let mut list = vec![0; LIST_BYTES];
     write_from(&mut list, links, 0);
-    let wide = wide(masters[1].nodes.len());
-    [&blocks[1], &wide].map(|blocks| Check::default().is_finished(masters, blocks, &list))
+    let wide = masters.each_ref().map(|master| wide(master.nodes.len()));
+    [blocks, &wide].map(|blocks| Check::default().is_finished(masters, blocks, &list))
 }
 
 #[test]

@@ -2,12 +2,17 @@
 
 mod masters;
 
+use bench::bytes::rows;
+use bench::calls::Calls;
 use bench::check::Check;
+use bench::peer::Peer;
 use bench::shapes::{Class, Count};
+use bench::sorted::Sorted;
 use masters::Arranged;
 use model::buffers::{links_of, list_of, table_of};
 use model::generate::damage::{damage_list, LIST_FAULTS};
 use model::generate::drawing::{Drawing, Size};
+use model::generate::edits::{good_edit, KINDS};
 use model::generate::random::Random;
 use model::join::join_by_sorting;
 use model::rows::Node;
@@ -15,7 +20,7 @@ use model::sizes::{LINK_BYTES, LIST_ROWS};
 
 fn says_yes(a: &[Node], b: &[Node], list: &[u8]) -> bool {
     let Arranged { masters, blocks } = Arranged::new(&[a, b].map(table_of));
-    Check::default().is_finished(&masters, &blocks[1], list)
+    Check::default().is_finished(&masters, &blocks, list)
 }
 
 #[test]
@@ -108,4 +113,46 @@ fn no_to_bytes_behind_the_links() {
     assert_eq!(links_of(&list).len(), 1);
     list[(LIST_ROWS - 1) * LINK_BYTES] = 1;
     assert!(!says_yes(&a, &a, &list));
+}
+
+/// After an edit the check looks at later nodes alone: it says yes to the new list, and to no other.
+#[test]
+fn again_after_an_edit() {
+    let (mut yes, mut no) = (0, 0);
+    for seed in 0..3_000 {
+        let random = &mut Random::new(seed);
+        let size = random.pick(&[Size::Tiny, Size::Small, Size::Medium]);
+        let drawing = Drawing::random(random, size);
+        let kind = random.pick(&KINDS);
+        let Some(edit) = good_edit(random, kind, &drawing.a, &drawing.b) else {
+            continue;
+        };
+        let before = list_of(&join_by_sorting(&drawing.a, &drawing.b));
+        let mut tables = [&drawing.a, &drawing.b].map(|nodes| table_of(nodes));
+        let mut after = before.clone();
+        let old = Arranged::new(&tables);
+        let [a, b] = &mut tables;
+        Peer::<Sorted>::default().edit(a, b, &mut after, &edit.bytes());
+        let new = Arranged::new(&tables);
+        let again = |list: &[u8]| {
+            let mut check = Check::default();
+            assert!(check.is_finished(&old.masters, &old.blocks, &before));
+            check.is_join_again(&new.masters, &new.blocks, rows(list))
+        };
+        assert!(again(&after), "{edit:?} seed {seed}\n{drawing}");
+        yes += 1;
+        if before != after {
+            assert!(!again(&before), "{edit:?} seed {seed}\n{drawing}");
+            no += 1;
+        }
+        for fault in LIST_FAULTS {
+            let mut damaged = after.clone();
+            damage_list(random, &mut damaged, fault);
+            let right = rows(&damaged).eq(rows(&after));
+            assert_eq!(again(&damaged), right, "{fault:?} seed {seed}\n{drawing}");
+            no += usize::from(!right);
+        }
+    }
+    println!("lists after an edit that pass the check: {yes}, that do not: {no}");
+    assert!(yes > 2_000 && no > 10_000);
 }
