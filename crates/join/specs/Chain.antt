@@ -58,14 +58,14 @@ module _ (R : Rows) (left chain : List ℕ) (n : ℕ) where
   Decided (Push w) = Pushed w
   Decided (Take i j d) = Mutually i j d × (i < R .split)
 
--- A chain begins with row w: the first that a block of A lists.
+-- An empty chain begins with row w: the first that a block of A lists.
 pub record Opens (live E : List ℕ) (split w : ℕ) : Type 0 where
   pub block : ℕ
   pub some : start 0 block < split
   pub listed : start 0 block < getD E block 0
   pub is : w ≡ getD live (start 0 block) 0
 
--- How a chain begins, or that A lists no row.
+-- How an empty chain begins, or that A lists no row.
 abbrev pub Begun : List ℕ → List ℕ → ℕ → Move → Type 0
 Begun live E split Stop = (i : ℕ) → start 0 i < split → getD E i 0 ≤ start 0 i
 Begun live E split (Push w) = Opens live E split w
@@ -87,10 +87,11 @@ pub data Seeded (xs ys : List ℤ) (kn : List ℕ) (kx ky : List ℤ) (chain spo
 unfoldable pub sides : ℕ → ℕ → ℕ → ℕ → Move
 sides t w d split = cond (ltb t split) (Take t w d) (Take w t d)
 
--- Of a chain of n rows r are kept: not the top, and the row below it only where it has something left.
-pub record Trimmed (left chain : List ℕ) (n r : ℕ) : Type 0 where
-  pub less : r < n
-  pub top : (h : ℕ) → h < r → n ≤ h + 2 → 1 ≤ getD left (getD chain h 0) 0
+-- A chain of n rows after a pair is taken: r of them are kept, not the top, and the row below it only where it has something left;
+-- or the top, which has something left, begins a new chain.
+pub data Trimmed (left chain : List ℕ) (n : ℕ) (chain' : List ℕ) (r : ℕ) : Type 0 where
+  kept : chain' ≡ chain → r < n → ((h : ℕ) → h < r → n ≤ h + 2 → 1 ≤ getD left (getD chain h 0) 0) → Trimmed left chain n chain' r
+  anew : chain' ≡ set chain 0 (getD chain (n - 1) 0) → r ≡ 1 → 1 ≤ getD left (getD chain (n - 1) 0) 0 → Trimmed left chain n chain' r
 
 -- A pair is taken: its rows lose the lesser of what they have left, the lists are kept, and row n of the links says so.
 pub record Taken (R : Rows) (left : List ℕ) (i j d n : ℕ) (L : Table) (left' : List ℕ) (Q' : Lists) (E' : List ℕ) (L' : Table) : Type 0 where

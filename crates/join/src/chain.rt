@@ -35,7 +35,7 @@ fn sided(t: usize, w: usize, d: u32, split: usize) -> Move
     Move::Take(w, t, d)
 }
 
-// A new chain begins with the first row that A lists, if there is one.
+// An empty chain begins with the first row that A lists, if there is one.
 fn begin(split: usize, live: &[u16], ends: &[usize]) -> Move
     requires { ⌜ (split ≤ length (now live)) × (split ≤ masterRows) × (length (now ends) ≡ tableBlocks) ⌝ }
     ensures { λ r. ⌜ Begun (now (live .entry)) (now (ends .entry)) split r ⌝ }

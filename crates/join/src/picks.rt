@@ -48,16 +48,28 @@ fn take(
     order::store(la, lb, ld, lm, n, ns[i], ns[j], d, m);
 }
 
-// Pops the top, and the row below it where that is used up.
-fn trim(depth: usize, chain: &[u16], left: &[u32]) -> usize
-    requires { ⌜ (2 ≤ depth) × (depth ≤ length (now chain)) × ((h : ℕ) → h < depth → getD (now chain) h 0 < length (now left)) ⌝ }
-    ensures { λ r. ⌜ Trimmed (now (left .entry)) (now (chain .entry)) depth r ⌝ }
+// What the row at height h of the chain has left.
+fn left_at(h: usize, chain: &[u16], left: &[u32]) -> u32
+    requires { ⌜ (h < length (now chain)) × (getD (now chain) h 0 < length (now left)) ⌝ }
+    ensures { λ r. ⌜ r ≡ getD (now (left .entry)) (getD (now (chain .entry)) h 0) 0 ⌝ }
 {
-    let below = rows::wide(chain, depth - 2);
-    if left[below] == 0 {
-        return depth - 2;
+    left[rows::wide(chain, h)]
+}
+
+// Pops the top, and the row below it where that is used up. Where at most one row would stay, a top that has something left begins a new chain:
+// it is searched from next, not a row that may be far away.
+fn trim(depth: usize, chain: &mut [u16], left: &[u32]) -> usize
+    requires { ⌜ (2 ≤ depth) × (depth ≤ length (now chain)) × ((h : ℕ) → h < depth → getD (now chain) h 0 < length (now left)) ⌝ }
+    ensures { λ r. ⌜ Trimmed (now (left .entry)) (now (chain .entry)) depth (now (chain .exit)) r ⌝ }
+{
+    if left_at(depth - 2, chain, left) > 0 {
+        return depth - 1;
     }
-    depth - 1
+    if depth <= 3 && left_at(depth - 1, chain, left) > 0 {
+        chain[0] = chain[depth - 1];
+        return 1;
+    }
+    depth - 2
 }
 
 // Pushes a row or takes a pair.

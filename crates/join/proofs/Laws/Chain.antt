@@ -14,9 +14,10 @@ use Rattle.matching.specs.Definitions.Pairs.{Pair, Before}
 use Rattle.matching.specs.Laws.Order.{before-trans}
 use Rattle.matching.specs.Laws.Earliest.{Leq, strictly, equally}
 use Rattle.join.specs.declared.chain.Move.the-variants.{Take}
+use Rattle.join.specs.Sizes.{chainRows}
 use Rattle.join.specs.Rows.{Rows, size, gap, Faces, faces, between, Sound}
 use Rattle.join.specs.Nearest.{Nearest, Chosen}
-use Rattle.join.specs.Chain.{Chain, Pushed, Decided, sides, Trimmed}
+use Rattle.join.specs.Chain.{Chain, Pushed, Decided, sides, Trimmed, kept, anew}
 use Rattle.join.proofs.Laws.Pairs.{gap-swap, faces-swap, faces-self, between-swap, same-row, not-before}
 
 -- Different numbers below m are at most m.
@@ -76,6 +77,17 @@ module _ (R : Rows) (left chain : List ℕ) (n : ℕ) (c : Chain R left chain n)
 
   pub depth-fits : n ≤ size R
   depth-fits = pigeonhole (size R) n (λ h. getD chain h 0) (c .inside) once
+
+-- Of a chain of at most one row no row has a next one.
+pub short : (R : Rows) (left chain : List ℕ) (n : ℕ) → n ≤ 1 → length chain ≡ chainRows → ((h : ℕ) → h < n → getD chain h 0 < size R) → ((h : ℕ) → h < n → 1 ≤ getD left (getD chain h 0) 0) → Chain R left chain n
+short R left chain n l e i a = record {
+  room = e;
+  inside = i;
+  alive = a;
+  facing = λ h b. absurd (omega arith);
+  nearest = λ h b. absurd (omega arith);
+  falls = λ h k g b. absurd (omega arith);
+}
 
 -- A list with one element stored.
 set-below : (l : List ℕ) (n w h : ℕ) → h < n → getD (set l n w) h 0 ≡ getD l h 0
@@ -153,21 +165,25 @@ module _ (R : Rows) (left : List ℕ) (v : Sound R left) (chain : List ℕ) (n :
             rw (set-below chain n w h (omega arith), set-below chain n w (h + 1) (omega arith))
             (next (λ g i j. h < g → Before (between R i j) (between R (row h) (row (h + 1)))) (λ g a q. c .falls h g q a) (λ g e q. later h g q e) k b l)
 
-  -- A chain cut short, after rows lost something.
-  pub cut : (left' : List ℕ) (r : ℕ) → ((q : ℕ) → getD left' q 0 ≤ getD left q 0) → ((h : ℕ) → h + 2 < n → getD left' (getD chain h 0) 0 ≡ getD left (getD chain h 0) 0)
-      → Trimmed left' chain n r → Chain R left' chain r
-  cut left' r low same t = record {
+  -- The chain after rows lost something: cut short, or its top alone.
+  pub cut : (left' chain' : List ℕ) (r : ℕ) → 2 ≤ n → ((q : ℕ) → getD left' q 0 ≤ getD left q 0) → ((h : ℕ) → h + 2 < n → getD left' (getD chain h 0) 0 ≡ getD left (getD chain h 0) 0)
+      → Trimmed left' chain n chain' r → Chain R left' chain' r
+  cut left' chain' r two low same (kept is less top) = rw is (record {
     room = c .room;
-    inside = λ h l. c .inside h (omega (arith, t .less));
+    inside = λ h l. c .inside h (omega arith);
     alive = λ h l. alive h l (decLt (h + 2) n);
-    facing = λ h l. c .facing h (omega (arith, t .less));
-    nearest = λ h l k f a. c .nearest h (omega (arith, t .less)) k f (omega (arith, low k));
-    falls = λ h k l b. c .falls h k l (omega (arith, t .less));
-  }
+    facing = λ h l. c .facing h (omega arith);
+    nearest = λ h l k f a. c .nearest h (omega arith) k f (omega (arith, low k));
+    falls = λ h k l b. c .falls h k l (omega arith);
+  })
     where
       alive : (h : ℕ) → h < r → Dec (h + 2 < n) → 1 ≤ getD left' (getD chain h 0) 0
-      alive h l (yes e) = omega (arith, same h e, c .alive h (omega (arith, t .less)))
-      alive h l (no e) = t .top h l (omega arith)
+      alive h l (yes e) = omega (arith, same h e, c .alive h (omega arith))
+      alive h l (no e) = top h l (omega arith)
+  cut left' chain' r two low same (anew is one top) = rw (is, one) (short R left' (set chain 0 (row (n - 1))) 1 (omega arith) (simp length-set (c .room)) (λ h l. rw (first h l) (c .inside (n - 1) (omega arith))) (λ h l. rw (first h l) top))
+    where
+      first : (h : ℕ) → h < 1 → getD (set chain 0 (row (n - 1))) h 0 ≡ row (n - 1)
+      first h l = set-at chain 0 (row (n - 1)) h (omega (arith, room)) (omega arith)
 
 -- What the top's nearest row, at, decides.
 module _ (R : Rows) (left : List ℕ) (v : Sound R left) (chain : List ℕ) (n : ℕ) (c : Chain R left chain n) (one : 1 ≤ n) (at d : ℕ) (q : Chosen R left (getD chain (n - 1) 0) at d) where

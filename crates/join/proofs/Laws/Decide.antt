@@ -114,7 +114,7 @@ module _ (R : Rows) (left : List ℕ) (Q : Lists) (E : List ℕ) (B : Boxes) (ch
   pub may-begin : (R .split ≤ length (Q .live)) × (R .split ≤ masterRows) × (length E ≡ tableBlocks)
   may-begin = (omega (arith, r .sound .parts, r .kept .sized .in-live), omega (arith, r .sound .masters masterA), r .kept .ends)
 
-  -- How a new chain begins.
+  -- How an empty chain begins.
   pub begun : s .depth ≡ 0 → (m : Move) → Begun (Q .live) E (R .split) m → Decided R left chain (s .depth) m
   begun z Stop f = none-left masterA (λ q h a. let p = place masterA q h a in let i = within R masterA q in omega (arith, p .0, p .1, f i (in-block R masterA q h .2), ap (λ (b : ℕ). getD E b 0) (zero-add i)))
   begun z (Push w) o = rw (o .is) (record { inside = omega (arith, l .on .1, ends masterA); alive = l .alive; next = λ h d. absurd (omega arith); new = λ h d. absurd (omega arith) })

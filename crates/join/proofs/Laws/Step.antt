@@ -19,7 +19,7 @@ use Rattle.join.specs.Contract.{Room}
 use Rattle.join.specs.Order.{Table, linksIn, stored, Has}
 use Rattle.join.specs.Chain.{Pushed, Mutually, Trimmed, Taken, bit, whole, Ready, Good, Stepped}
 use Rattle.join.proofs.Laws.Rest.{rest-count, off-rows, lose-le, rest-take}
-use Rattle.join.proofs.Laws.Chain.{room, push, cut}
+use Rattle.join.proofs.Laws.Chain.{room, short, push, cut}
 
 true-false : {A : Type 0} → true ≡ false → A
 true-false p = let z : _≡_ {A = ℕ} 0 1 = cc in absurd (omega arith)
@@ -123,16 +123,16 @@ module _ (R : Rows) (left : List ℕ) (Q : Lists) (E : List ℕ) (B : Boxes) (ch
     same-off = off-rows R left (r .sound) i j on-a on-b amount
 
     -- The pair is taken.
-    take : (n : ℕ) (O : Lists) (F : List ℕ) → Trimmed new chain (s .depth) n → Kept R new O F
-        → Stepped R B left L s new O F chain (stored L (s .links) link) (record { depth = n; links = s .links + 1; more = s .more })
+    take : (n : ℕ) (O : Lists) (F chain' : List ℕ) → Trimmed new chain (s .depth) chain' n → Kept R new O F
+        → Stepped R B left L s new O F chain' (stored L (s .links) link) (record { depth = n; links = s .links + 1; more = s .more })
     unfolding whole
-    take n O F t k = record {
+    take n O F chain' t k = record {
       good = record {
         ready = record {
           sound = sound-left R left new (simp length-set (r .sound .len-c)) (r .sound);
           kept = k;
           fenced = r .fenced;
-          path = cut R left (r .sound) chain (s .depth) (r .path) new n lower (λ h l. same-off (getD chain h 0) (m .not-i h l) (m .not-j h l)) t;
+          path = cut R left (r .sound) chain (s .depth) (r .path) new chain' n deep lower (λ h l. same-off (getD chain h 0) (m .not-i h l) (m .not-j h l)) t;
         };
         room = record { in-a = simp length-set (g .room .in-a); in-b = simp length-set (g .room .in-b); in-d = simp length-set (g .room .in-d); in-m = simp length-set (g .room .in-m) };
         count = omega (arith, fewer, g .count);
@@ -142,14 +142,14 @@ module _ (R : Rows) (left : List ℕ) (Q : Lists) (E : List ℕ) (B : Boxes) (ch
           (omega (arith, has-row .in-a)) (omega (arith, has-row .in-b)) (omega (arith, has-row .in-d)) (omega (arith, has-row .in-m)))
           ∙ puts-snoc (linksIn L (s .links)) link (rest R new)
           ∙ ap (puts (linksIn L (s .links))) (sym first);
-      falls = omega (arith, fewer, t .less, r .path .room);
+      falls = omega (arith, fewer);
       ends = λ e. true-false (sym on ∙ e);
     }
 
     -- The same, with what was stored in hand.
-    pub stepped-take : (left' : List ℕ) (O : Lists) (F : List ℕ) (L' : Table) (n : ℕ) → Taken R left i j d (s .links) L left' O F L' → Trimmed left' chain (s .depth) n
-        → Stepped R B left L s left' O F chain L' (record { depth = n; links = s .links + 1; more = s .more })
-    stepped-take left' O F L' n k t = rw (k .lefts, k .links) (take n O F (rw (k .lefts) at t) (rw (k .lefts) at (k .kept)))
+    pub stepped-take : (left' : List ℕ) (O : Lists) (F chain' : List ℕ) (L' : Table) (n : ℕ) → Taken R left i j d (s .links) L left' O F L' → Trimmed left' chain (s .depth) chain' n
+        → Stepped R B left L s left' O F chain' L' (record { depth = n; links = s .links + 1; more = s .more })
+    stepped-take left' O F chain' L' n k t = rw (k .lefts, k .links) (take n O F chain' (rw (k .lefts) at t) (rw (k .lefts) at (k .kept)))
 
 -- A run begins with an empty chain and no link.
 pub good-start : (R : Rows) (left : List ℕ) (Q : Lists) (E : List ℕ) (B : Boxes) (chain : List ℕ) (L : Table) → Sound R left → Kept R left Q E → Fenced R B → length chain ≡ chainRows → Room (L .la) (L .lb) (L .ld) (L .lm)
@@ -159,14 +159,7 @@ good-start R left Q E B chain L v k f e w = record {
     sound = v;
     kept = k;
     fenced = f;
-    path = record {
-      room = e;
-      inside = λ h l. absurd (omega arith);
-      alive = λ h l. absurd (omega arith);
-      facing = λ h l. absurd (omega arith);
-      nearest = λ h l. absurd (omega arith);
-      falls = λ h k l b. absurd (omega arith);
-    };
+    path = short R left chain 0 (omega arith) e (λ h l. absurd (omega arith)) (λ h l. absurd (omega arith));
   };
   room = w;
   count = omega (arith, rest-count R left v);
