@@ -6,6 +6,7 @@ mod order;
 mod picks;
 mod rows;
 pub mod sizes;
+mod take;
 
 ghost use Rattle.matching.specs.Definitions.Columns.{nodesOf};
 ghost use Rattle.join.specs.Contract.{Fit, Room, Joined};

@@ -1,7 +1,7 @@
--- `picks::left_at` meets its contract: the row that is read is the one on the chain. Assumes nothing.
+-- `take::left_at` meets its contract: the row that is read is the one on the chain. Assumes nothing.
 use borrow.Author.Needs.{needs}
-use Rattle.join.proofs.picks.left_at.Statement.{statement}
-use Rattle.join.proofs.picks.left_at.Tie as tie
+use Rattle.join.proofs.take.left_at.Statement.{statement}
+use Rattle.join.proofs.take.left_at.Tie as tie
 
 wide-requires : tie.Need-wide-requires
 wide-requires c κs = search needs

@@ -1,10 +1,10 @@
--- `picks::take` meets its contract: each row loses the lesser, and the link is stored. Assumes nothing.
+-- `take::pair` meets its contract: each row loses the lesser, and the link is stored. Assumes nothing.
 use mathlib.Core.Path.{_∙_}
 use native.Mathlib.Omega.{arith}
 use borrow.Author.Needs.{needs}
 use Rattle.join.proofs.Laws.Step.{take-second, taken}
-use Rattle.join.proofs.picks.take.Statement.{statement}
-use Rattle.join.proofs.picks.take.Tie as tie
+use Rattle.join.proofs.take.pair.Statement.{statement}
+use Rattle.join.proofs.take.pair.Tie as tie
 
 mul-lesser : tie.Need-mul-lesser
 mul-lesser c = search needs
@@ -78,8 +78,8 @@ same-length-11 c = search needs
 returns : tie.Need-returns
 returns c = let p = c .before .before .before .before .before .before .before .before .before .before .before .before .before .before .before .before .before .before .before .before .before .before .before .before .before .before .before .before .before .before .before .before .before .before .before .before .before .before .before .before .before .before .before .before .before .before .before .before .before .before .before .before .before .before .before .before .before .before .before .before .before .before .before .before .before .before .before .before .pre in taken _ _ (p .0 .0) _ _ (p .1 .0) (p .1 .1) (p .1 .2) (p .1 .4) _ (c .before .before .before .before .before .before .before .before .before .before .before .before .before .before .before .before .before .before .before .before .before .before .before .before .before .before .before .before .before .before .before .before .before .before .before .before .before .before .before .before .before .before .before .before .before .before .before .before .before .before .before .before .before .before .before .lesser .ensures) _ _ _ (c .before .before .before .before .before .before .before .before .before .before .before .before .before .before .before .before .before .before .before .before .before .before .before .before .before .before .before .before .before .before .before .before .before .before .before .before .before .before .before .before .before .before .before .before .before .before .before .spend .ensures) _ _ _ _ _ _ _ (c .before .before .before .before .before .before .before .before .before .before .before .before .before .before .before .before .before .before .before .before .before .before .before .before .before .before .before .spend2 .ensures) (c .before .before .before .before .before .before .before .before .store .ensures)
 
-pub take-spec : {M : Type 1} → statement M
-take-spec =
+pub pair-spec : {M : Type 1} → statement M
+pair-spec =
     tie.close
     (tie.spec
     mul-lesser

@@ -1,4 +1,4 @@
--- `picks::trim` meets its contract: the row below the top, and a top that begins a new chain, are tested. Assumes nothing.
+-- `take::trim` meets its contract: the row below the top, and a top that begins a new chain, are tested. Assumes nothing.
 use Prim.Native.Nat.{ℕ, _-_, _<_}
 use mathlib.Core.Path.{_≡_, refl}
 use native.Mathlib.Omega.{arith}
@@ -6,8 +6,8 @@ use lib.ListN.{length, getD}
 use borrow.Author.Needs.{needs}
 use borrow.Author.Tests.{ltb-true}
 use Rattle.join.specs.Chain.{kept, anew}
-use Rattle.join.proofs.picks.trim.Statement.{statement}
-use Rattle.join.proofs.picks.trim.Tie as tie
+use Rattle.join.proofs.take.trim.Statement.{statement}
+use Rattle.join.proofs.take.trim.Tie as tie
 
 -- A row on the chain may be read.
 readable : (s : tie.Start) (h : ℕ) → h < s .args .depth → (h < length (s .args .chain .now)) × (getD (s .args .chain .now) h 0 < length (s .args .left .now))
