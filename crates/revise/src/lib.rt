@@ -3,6 +3,7 @@ mod blocks;
 mod columns;
 mod links;
 mod nearest;
+mod old;
 mod pairs;
 mod rich;
 mod run;
