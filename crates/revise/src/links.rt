@@ -8,7 +8,7 @@ ghost use mathlib.Core.Path.{_≡_};
 ghost use Prim.Native.Nat.{_<_, _≤_};
 ghost use lib.ListN.{length};
 ghost use Rattle.join.specs.Sizes.{linkRows, tableRows};
-ghost use Rattle.revise.specs.Sizes.{richRows};
+ghost use Rattle.revise.specs.Sizes.{richPairs};
 ghost use Rattle.revise.specs.Rows.{Board, Desk, Fair};
 
 // Takes m of what a row has, as far as it goes.
@@ -149,7 +149,7 @@ pub fn release(
     left: &[u32],
     rich: &mut [u64],
 ) -> Run
-    requires { ⌜ Board (now ns) (now xs) (now ys) split × (length (now was) ≡ length (now ns)) × (length (now left) ≡ length (now ns)) × (length (now rich) ≡ richRows) × Fair s ⌝ }
+    requires { ⌜ Board (now ns) (now xs) (now ys) split × (length (now was) ≡ length (now ns)) × (length (now left) ≡ length (now ns)) × (length (now rich) ≡ richPairs) × Fair s ⌝ }
     requires { ⌜ i < length (now ns) ⌝ }
     ensures { λ r. ⌜ Fair r ⌝ }
 {
