@@ -8,8 +8,9 @@ use Rattle.matching.specs.Definitions.Columns.{Inside}
 use Rattle.join.specs.Sizes.{tableRows, linkRows}
 use Rattle.join.specs.Rows.{Columns}
 use Rattle.revise.specs.declared.blocks.Frame.{Frame}
+use Rattle.revise.specs.declared.nearest.Two.{Two}
 use Rattle.revise.specs.declared.run.Run.{Run}
-use Rattle.revise.specs.Sizes.{richRows}
+use Rattle.revise.specs.Sizes.{richRows, richPairs}
 
 -- Both masters' rows, B's from row split on.
 pub record Board (ns : List ℕ) (xs ys : List ℤ) (split : ℕ) : Type 0 where
@@ -22,7 +23,7 @@ pub record Board (ns : List ℕ) (xs ys : List ℤ) (split : ℕ) : Type 0 where
 pub record Desk (ns was left rich news km : List ℕ) : Type 0 where
   pub of-was : length was ≡ length ns
   pub of-left : length left ≡ length ns
-  pub of-rich : length rich ≡ richRows
+  pub of-rich : length rich ≡ richPairs
   pub of-news : length news ≡ linkRows
   pub of-km : length km ≡ linkRows
 
@@ -30,6 +31,11 @@ pub record Desk (ns was left rich news km : List ℕ) : Type 0 where
 pub record Fair (s : Run) : Type 0 where
   pub rich : s .rich ≤ richRows
   pub links : s .links ≤ linkRows
+
+-- The two nearest rows are below end.
+pub record Both (s : Two) (end : ℕ) : Type 0 where
+  pub first : s .first .at < end
+  pub second : s .second .at < end
 
 -- A frame's rows are below end, and not more than end.
 pub record Within (f : Frame) (end : ℕ) : Type 0 where

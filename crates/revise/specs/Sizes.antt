@@ -5,6 +5,10 @@ use Prim.Native.Nat.{ℕ}
 abbrev pub richRows : ℕ
 richRows = 64
 
+-- Pairs that are kept of them, two of each.
+abbrev pub richPairs : ℕ
+richPairs = 128
+
 -- Turns that a run may take.
 abbrev pub turns : ℕ
 turns = 4096

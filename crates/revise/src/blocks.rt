@@ -1,5 +1,5 @@
 // Boxes around 32 rows each, by the rows that touch their edges: how near a row of a block with something left can be to a row. Nothing is promised of what stands in a column of edges.
-use crate::run::wide;
+use crate::old::wide;
 use crate::sizes;
 use join::nearest::pack;
 ghost use mathlib.Core.Path.{_≡_};

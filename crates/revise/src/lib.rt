@@ -3,6 +3,7 @@ mod blocks;
 mod columns;
 mod links;
 mod nearest;
+mod old;
 mod pairs;
 mod rich;
 mod run;
@@ -14,7 +15,7 @@ ghost use lib.ListN.{length};
 ghost use Rattle.join.specs.Contract.{Fit};
 ghost use Rattle.join.specs.Sizes.{linkRows};
 ghost use Rattle.verify.specs.Rows.{Level};
-ghost use Rattle.revise.specs.Sizes.{richRows};
+ghost use Rattle.revise.specs.Sizes.{richRows, richPairs};
 ghost use Rattle.revise.specs.Rows.{Board};
 
 // The edited node, number z among the rows from first to end, had nothing before; gives how many rows are richer for it.
@@ -31,7 +32,7 @@ fn begin(
     left: &[u32],
     rich: &mut [u64],
 ) -> usize
-    requires { ⌜ Board (now ns) (now xs) (now ys) split × (length (now was) ≡ length (now ns)) × (length (now left) ≡ length (now ns)) × (length (now rich) ≡ richRows) × (end ≤ length (now ns)) ⌝ }
+    requires { ⌜ Board (now ns) (now xs) (now ys) split × (length (now was) ≡ length (now ns)) × (length (now left) ≡ length (now ns)) × (length (now rich) ≡ richPairs) × (end ≤ length (now ns)) ⌝ }
     ensures { λ n. ⌜ n ≤ richRows ⌝ }
 {
     let mut k = first;
@@ -58,7 +59,7 @@ fn entrance(
     left: &[u32],
     rich: &mut [u64],
 ) -> usize
-    requires { ⌜ Board (now ns) (now xs) (now ys) split × (length (now was) ≡ length (now ns)) × (length (now left) ≡ length (now ns)) × (length (now rich) ≡ richRows) ⌝ }
+    requires { ⌜ Board (now ns) (now xs) (now ys) split × (length (now was) ≡ length (now ns)) × (length (now left) ≡ length (now ns)) × (length (now rich) ≡ richPairs) ⌝ }
     ensures { λ n. ⌜ n ≤ richRows ⌝ }
 {
     if second {
@@ -108,7 +109,7 @@ fn follow(
 {
     let mut edges = [0u16; sizes::FRAMES];
     blocks::survey(ns, xs, ys, &mut edges, left);
-    let mut rich = [0u64; sizes::RICH];
+    let mut rich = [0u64; sizes::PAIRS];
     let mut news = [0u64; sizes::LINKS];
     let n = entrance(
         z,

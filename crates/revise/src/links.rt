@@ -8,7 +8,7 @@ ghost use mathlib.Core.Path.{_≡_};
 ghost use Prim.Native.Nat.{_<_, _≤_};
 ghost use lib.ListN.{length};
 ghost use Rattle.join.specs.Sizes.{linkRows, tableRows};
-ghost use Rattle.revise.specs.Sizes.{richRows};
+ghost use Rattle.revise.specs.Sizes.{richPairs};
 ghost use Rattle.revise.specs.Rows.{Board, Desk, Fair};
 
 // Takes m of what a row has, as far as it goes.
@@ -93,6 +93,48 @@ pub fn link(
     r
 }
 
+// Whether rows i and j have as much left as they had.
+pub fn unchanged(i: usize, j: usize, was: &[u32], left: &[u32]) -> bool
+    requires { ⌜ (i < length (now left)) × (j < length (now left)) × (length (now was) ≡ length (now left)) ⌝ }
+{
+    if was[i] == left[i] {
+        return was[j] == left[j];
+    }
+    false
+}
+
+// Takes m of row r, which has as much left as it had.
+fn pass(r: usize, m: u32, edges: &mut [u16], was: &mut [u32], left: &mut [u32])
+    requires { ⌜ (r < length (now left)) × (length (now was) ≡ length (now left)) × (length (now left) ≤ tableRows) ⌝ }
+{
+    draw(r, m, edges, left);
+    was[r] = left[r];
+}
+
+// The link of two rows that have as much left as they had is taken as it was: neither becomes richer.
+pub fn steady(
+    s: Run,
+    i: usize,
+    j: usize,
+    d: u32,
+    m: u32,
+    edges: &mut [u16],
+    was: &mut [u32],
+    left: &mut [u32],
+    news: &mut [u64],
+    km: &mut [u32],
+) -> Run
+    requires { ⌜ (length (now was) ≡ length (now left)) × (length (now left) ≤ tableRows) × (length (now news) ≡ linkRows) × (length (now km) ≡ linkRows) × Fair s ⌝ }
+    requires { ⌜ (i < length (now left)) × (j < length (now left)) ⌝ }
+    ensures { λ r. ⌜ Fair r ⌝ }
+{
+    pass(i, m, edges, was, left);
+    pass(j, m, edges, was, left);
+    let mut r = s;
+    r.links = write(s.links, i, j, d, m, news, km);
+    r
+}
+
 // A link there is the edited node's, and gone: its other row i has its amount m back.
 pub fn release(
     s: Run,
@@ -107,7 +149,7 @@ pub fn release(
     left: &[u32],
     rich: &mut [u64],
 ) -> Run
-    requires { ⌜ Board (now ns) (now xs) (now ys) split × (length (now was) ≡ length (now ns)) × (length (now left) ≡ length (now ns)) × (length (now rich) ≡ richRows) × Fair s ⌝ }
+    requires { ⌜ Board (now ns) (now xs) (now ys) split × (length (now was) ≡ length (now ns)) × (length (now left) ≡ length (now ns)) × (length (now rich) ≡ richPairs) × Fair s ⌝ }
     requires { ⌜ i < length (now ns) ⌝ }
     ensures { λ r. ⌜ Fair r ⌝ }
 {

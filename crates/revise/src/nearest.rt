@@ -1,4 +1,4 @@
-// The row nearest to a row among those of the other master that have something left.
+// The two rows nearest to a row among those of the other master that have something left.
 use crate::blocks;
 use crate::sizes;
 use join::nearest::Near;
@@ -9,7 +9,13 @@ ghost use Prim.Native.Nat.{_<_, _≤_};
 ghost use lib.ListN.{length};
 ghost use Rattle.join.specs.Sizes.{tableRows};
 ghost use Rattle.join.specs.Rows.{Columns};
-ghost use Rattle.revise.specs.Rows.{Board};
+ghost use Rattle.revise.specs.Rows.{Board, Both};
+
+// The nearest row and the next nearest; the key is none where there is no such row.
+pub struct Two {
+    pub first: Near,
+    pub second: Near,
+}
 
 // The key of row k as seen from row t, or none where nothing is left of it.
 fn key(t: usize, k: usize, ns: &[u32], xs: &[i16], ys: &[i16], left: &[u32]) -> u64
@@ -21,64 +27,79 @@ fn key(t: usize, k: usize, ns: &[u32], xs: &[i16], ys: &[i16], left: &[u32]) -> 
     pack(apart(t, k, xs, ys, xs, ys), ns[k])
 }
 
-// The nearest so far, or row k where its key c is less.
-fn closer(s: Near, c: u64, k: usize, size: usize) -> Near
-    requires { ⌜ (s .at < size) × (k < size) ⌝ }
-    ensures { λ r. ⌜ r .at < size ⌝ }
+// The two nearest of s and row n.
+fn closer(s: Two, n: Near, size: usize) -> Two
+    requires { ⌜ Both s size × (n .at < size) ⌝ }
+    ensures { λ r. ⌜ Both r size ⌝ }
 {
-    if c < s.key {
-        return Near { key: c, at: k };
+    let first = s.first;
+    if n.key < first.key {
+        return Two {
+            first: n,
+            second: first,
+        };
+    }
+    let second = s.second;
+    if n.key < second.key {
+        return Two {
+            first: first,
+            second: n,
+        };
     }
     s
 }
 
-// The nearest to row t of s and the rows from first to end.
+// The two nearest to row t of s and the rows from first to end.
 fn search(
     t: usize,
     first: usize,
     end: usize,
-    s: Near,
+    s: Two,
     ns: &[u32],
     xs: &[i16],
     ys: &[i16],
     left: &[u32],
-) -> Near
-    requires { ⌜ Columns (now ns) (now xs) (now ys) × (length (now left) ≡ length (now ns)) × (t < length (now ns)) × (end ≤ length (now ns)) × (s .at < length (now ns)) ⌝ }
-    ensures { λ r. ⌜ r .at < length (now (ns .entry)) ⌝ }
+) -> Two
+    requires { ⌜ Columns (now ns) (now xs) (now ys) × (length (now left) ≡ length (now ns)) × (t < length (now ns)) × (end ≤ length (now ns)) × Both s (length (now ns)) ⌝ }
+    ensures { λ r. ⌜ Both r (length (now (ns .entry))) ⌝ }
 {
     let size = ns.len();
     let mut r = s;
     let mut k = first;
     while k < end {
-        r = closer(r, key(t, k, ns, xs, ys, left), k, size);
+        let n = Near {
+            key: key(t, k, ns, xs, ys, left),
+            at: k,
+        };
+        r = closer(r, n, size);
         k += 1;
     }
     r
 }
 
-// The nearest to row t of s and the rows from first to end, all of one block; a block too far away is not looked through.
+// The two nearest to row t of s and the rows from first to end, all of one block; a block too far away is not looked through.
 fn visit(
     t: usize,
     first: usize,
     end: usize,
-    s: Near,
+    s: Two,
     ns: &[u32],
     xs: &[i16],
     ys: &[i16],
     edges: &mut [u16],
     left: &[u32],
-) -> Near
-    requires { ⌜ Columns (now ns) (now xs) (now ys) × (length (now left) ≡ length (now ns)) × (t < length (now ns)) × (end ≤ length (now ns)) × (s .at < length (now ns)) ⌝ }
+) -> Two
+    requires { ⌜ Columns (now ns) (now xs) (now ys) × (length (now left) ≡ length (now ns)) × (t < length (now ns)) × (end ≤ length (now ns)) × Both s (length (now ns)) ⌝ }
     requires { ⌜ (first < end) × (length (now ns) ≤ tableRows) ⌝ }
-    ensures { λ r. ⌜ r .at < length (now (ns .entry)) ⌝ }
+    ensures { λ r. ⌜ Both r (length (now (ns .entry))) ⌝ }
 {
-    if blocks::skip(t, first, s.key, ns, xs, ys, edges, left) {
+    if blocks::skip(t, first, s.second.key, ns, xs, ys, edges, left) {
         return s;
     }
     search(t, first, end, s, ns, xs, ys, left)
 }
 
-// The nearest to row t of the rows from first to end; its key is none where nothing is left of them.
+// The two nearest to row t of the rows from first to end.
 fn scan(
     t: usize,
     first: usize,
@@ -88,13 +109,17 @@ fn scan(
     ys: &[i16],
     edges: &mut [u16],
     left: &[u32],
-) -> Near
+) -> Two
     requires { ⌜ Columns (now ns) (now xs) (now ys) × (length (now left) ≡ length (now ns)) × (t < length (now ns)) × (end ≤ length (now ns)) × (length (now ns) ≤ tableRows) ⌝ }
-    ensures { λ r. ⌜ r .at < length (now (ns .entry)) ⌝ }
+    ensures { λ r. ⌜ Both r (length (now (ns .entry))) ⌝ }
 {
-    let mut s = Near {
+    let none = Near {
         key: sizes::NONE,
         at: t,
+    };
+    let mut s = Two {
+        first: none,
+        second: none,
     };
     let mut k = first;
     while k < end {
@@ -105,7 +130,7 @@ fn scan(
     s
 }
 
-// The nearest to row t of the other master's rows: A's are those before row split.
+// The two nearest to row t of the other master's rows: A's are those before row split.
 pub fn partner(
     t: usize,
     split: usize,
@@ -114,9 +139,9 @@ pub fn partner(
     ys: &[i16],
     edges: &mut [u16],
     left: &[u32],
-) -> Near
+) -> Two
     requires { ⌜ Board (now ns) (now xs) (now ys) split × (length (now left) ≡ length (now ns)) × (t < length (now ns)) ⌝ }
-    ensures { λ r. ⌜ r .at < length (now (ns .entry)) ⌝ }
+    ensures { λ r. ⌜ Both r (length (now (ns .entry))) ⌝ }
 {
     if t < split {
         return scan(t, split, ns.len(), ns, xs, ys, edges, left);

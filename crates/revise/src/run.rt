@@ -3,13 +3,18 @@
 use crate::links::link;
 use crate::links::release;
 use crate::links::spend;
+use crate::links::steady;
+use crate::links::unchanged;
+use crate::old::gone;
+use crate::old::hint;
+use crate::old::other;
 use crate::pairs;
 use crate::rich;
 use crate::sizes;
 ghost use mathlib.Core.Path.{_≡_};
 ghost use Prim.Native.Nat.{_<_, _≤_};
 ghost use lib.ListN.{length};
-ghost use Rattle.join.specs.Sizes.{linkRows, tableRows};
+ghost use Rattle.join.specs.Sizes.{linkRows};
 ghost use Rattle.verify.specs.Rows.{Level};
 ghost use Rattle.revise.specs.Rows.{Board, Desk, Fair};
 
@@ -19,42 +24,6 @@ pub struct Run {
     pub rich: usize,
     pub links: usize,
     pub done: bool,
-}
-
-// A row by a hint, from row `from` on; nothing is promised of it but that there is such a row.
-fn hint(places: &[u16], k: usize, from: usize, size: usize) -> usize
-    requires { ⌜ (k < length (now places)) × (0 < size) × (from ≤ tableRows) ⌝ }
-    ensures { λ r. ⌜ r < size ⌝ }
-{
-    let r = from + wide(places[k]);
-    if r < size {
-        return r;
-    }
-    0
-}
-
-pub fn wide(x: u16) -> usize
-    ensures { λ r. ⌜ r ≡ x ⌝ }
-{
-    x as usize
-}
-
-// Whether link k there is the edited node's: number z in A, or in B where `second`.
-fn gone(k: usize, z: u32, second: bool, la: &[u32], lb: &[u32]) -> bool
-    requires { ⌜ (k < length (now la)) × (length (now lb) ≡ length (now la)) ⌝ }
-{
-    if second {
-        return lb[k] == z;
-    }
-    la[k] == z
-}
-
-// Of A's row i and B's row j the one that is not the edited node's.
-fn other(i: usize, j: usize, second: bool, size: usize) -> usize
-    requires { ⌜ (i < size) × (j < size) ⌝ }
-    ensures { λ r. ⌜ r < size ⌝ }
-{
-    if second { i } else { j }
 }
 
 // Link k there: taken with what its rows have left now, unless it is the edited node's.
@@ -91,6 +60,9 @@ fn follow(
     if gone(k, z, second, la, lb) {
         let o = other(i, j, second, ns.len());
         return release(s, o, m, split, ns, xs, ys, edges, was, left, rich);
+    }
+    if unchanged(i, j, was, left) {
+        return steady(s, i, j, d, m, edges, was, left, news, km);
     }
     spend(i, m, was);
     spend(j, m, was);

@@ -9,6 +9,9 @@ pub const RICH: usize = 64;
 
 pub const TURNS: usize = 4096;
 
+// Pairs that are kept of the richer rows, two of each.
+pub const PAIRS: usize = 128;
+
 // What the first row of a packed pair is multiplied by.
 pub const WIDTH: u64 = 65536;
 

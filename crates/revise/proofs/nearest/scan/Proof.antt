@@ -1,14 +1,15 @@
--- `nearest::scan` meets its contract: block by block, what is kept is one of the rows. Assumes nothing.
-use Prim.Native.Nat.{_-_, _<_}
+-- `nearest::scan` meets its contract: block by block, the rows kept are rows. Assumes nothing.
+use Prim.Native.Nat.{_-_}
 use mathlib.Core.Path.{_≡_}
 use native.Mathlib.Omega.{arith}
 use lib.ListN.{length}
 use borrow.Author.Needs.{needs}
+use Rattle.revise.specs.Rows.{Both}
 use Rattle.revise.proofs.nearest.scan.Statement.{statement}
 use Rattle.revise.proofs.nearest.scan.Tie as tie
 
 abbrev Inv-loop : tie.InvT-loop
-Inv-loop t first end ns xs ys edges₀ left s₀ k₀ edges s k = (s .at < length ns) × (length edges ≡ length edges₀)
+Inv-loop t first end ns xs ys edges₀ left s₀ k₀ edges s k = Both s (length ns) × (length edges ≡ length edges₀)
 
 abbrev μ-loop : tie.MeasureT-loop
 μ-loop t first end ns xs ys edges₀ left s₀ k₀ edges s k = end - k

@@ -1,14 +1,15 @@
--- `nearest::search` meets its contract. The loop's invariant: the row kept is one of the rows. Assumes nothing.
-use Prim.Native.Nat.{_<_, _-_}
+-- `nearest::search` meets its contract. The loop's invariant: the rows kept are rows. Assumes nothing.
+use Prim.Native.Nat.{_-_}
 use mathlib.Core.Path.{_≡_}
 use native.Mathlib.Omega.{arith}
 use lib.ListN.{length}
 use borrow.Author.Needs.{needs}
+use Rattle.revise.specs.Rows.{Both}
 use Rattle.revise.proofs.nearest.search.Statement.{statement}
 use Rattle.revise.proofs.nearest.search.Tie as tie
 
 abbrev Inv-loop : tie.InvT-loop
-Inv-loop t first end ns xs ys left size r₀ k₀ r k = (r .at < size) × (size ≡ length ns)
+Inv-loop t first end ns xs ys left size r₀ k₀ r k = Both r size × (size ≡ length ns)
 
 abbrev μ-loop : tie.MeasureT-loop
 μ-loop t first end ns xs ys left size r₀ k₀ r k = end - k

@@ -1,5 +1,5 @@
 -- `run::follow` meets its contract: there are such rows, and the columns keep their lengths. Assumes nothing.
-use mathlib.Core.Path.{_∙_}
+use mathlib.Core.Path.{_∙_, sym}
 use native.Mathlib.Omega.{arith}
 use borrow.Author.Needs.{needs}
 use Rattle.revise.proofs.run.follow.Statement.{statement}
@@ -47,14 +47,11 @@ same-length-4 c = search needs
 returns : tie.Need-returns
 returns c = search needs
 
-spend-requires : tie.Need-spend-requires
-spend-requires c κs = search needs
+unchanged-requires : tie.Need-unchanged-requires
+unchanged-requires c κs = search needs
 
-spend-requires-2 : tie.Need-spend-requires-2
-spend-requires-2 c κs = omega (arith, c .before .before .before .spend .kept, c .before .before .before .before .before .before .before .before .before .hint2 .ensures, c .before .before .before .before .before .before .before .before .before .before .before .before .before .before .before .before .before .before .before .before .before .before .before .before .pre .0 .1 .of-was)
-
-link-requires : tie.Need-link-requires
-link-requires c κs = let p = c .before .before .before .before .before .before .before .before .before .before .before .before .before .before .before .before .before .before .before .before .before .before .before .before .before .before .before .before .before .before .before .before .before .pre in let d = p .0 .1 in ((p .0 .0, record { of-was = c .before .before .before .before .before .before .before .before .spend2 .kept .1 .1 .0 ∙ c .before .before .before .before .before .before .before .before .before .before .before .before .spend .kept .1 .1 .0 ∙ d .of-was; of-left = d .of-left; of-rich = d .of-rich; of-news = d .of-news; of-km = d .of-km }, p .0 .2), (c .before .before .before .before .before .before .before .before .before .before .before .before .before .before .before .before .before .before .before .hint .ensures, c .before .before .before .before .before .before .before .before .before .before .before .before .before .before .before .before .before .before .hint2 .ensures))
+steady-requires : tie.Need-steady-requires
+steady-requires c κs = let p = c .before .before .before .before .before .before .before .before .before .before .before .before .before .before .before .before .before .before .before .before .before .before .before .before .before .before .before .before .pre in let d = p .0 .1 in ((d .of-was ∙ sym (d .of-left), omega (arith, p .0 .0 .most, d .of-left), d .of-news, d .of-km, p .0 .2), (omega (arith, c .before .before .before .before .before .before .before .before .before .before .before .before .before .before .hint .ensures, d .of-left), omega (arith, c .before .before .before .before .before .before .before .before .before .before .before .before .before .hint2 .ensures, d .of-left)))
 
 same-length-5 : tie.Need-same-length-5
 same-length-5 c = search needs
@@ -71,11 +68,38 @@ same-length-8 c = search needs
 same-length-9 : tie.Need-same-length-9
 same-length-9 c = search needs
 
+returns-2 : tie.Need-returns-2
+returns-2 c = search needs
+
+spend-requires : tie.Need-spend-requires
+spend-requires c κs = omega (arith, c .before .before .before .before .before .before .before .before .before .before .hint .ensures, c .before .before .before .before .before .before .before .before .before .before .before .before .before .before .before .before .before .before .before .before .before .before .before .before .pre .0 .1 .of-was)
+
+spend-requires-2 : tie.Need-spend-requires-2
+spend-requires-2 c κs = omega (arith, c .before .before .before .spend .kept, c .before .before .before .before .before .before .before .before .before .before .before .before .before .hint2 .ensures, c .before .before .before .before .before .before .before .before .before .before .before .before .before .before .before .before .before .before .before .before .before .before .before .before .before .before .before .before .pre .0 .1 .of-was)
+
+link-requires : tie.Need-link-requires
+link-requires c κs = let p = c .before .before .before .before .before .before .before .before .before .before .before .before .before .before .before .before .before .before .before .before .before .before .before .before .before .before .before .before .before .before .before .before .before .before .before .before .before .pre in let d = p .0 .1 in ((p .0 .0, record { of-was = c .before .before .before .before .before .before .before .before .spend2 .kept .1 .1 .0 ∙ c .before .before .before .before .before .before .before .before .before .before .before .before .spend .kept .1 .1 .0 ∙ d .of-was; of-left = d .of-left; of-rich = d .of-rich; of-news = d .of-news; of-km = d .of-km }, p .0 .2), (c .before .before .before .before .before .before .before .before .before .before .before .before .before .before .before .before .before .before .before .before .before .before .before .hint .ensures, c .before .before .before .before .before .before .before .before .before .before .before .before .before .before .before .before .before .before .before .before .before .before .hint2 .ensures))
+
 same-length-10 : tie.Need-same-length-10
 same-length-10 c = search needs
 
-returns-2 : tie.Need-returns-2
-returns-2 c = search needs
+same-length-11 : tie.Need-same-length-11
+same-length-11 c = search needs
+
+same-length-12 : tie.Need-same-length-12
+same-length-12 c = search needs
+
+same-length-13 : tie.Need-same-length-13
+same-length-13 c = search needs
+
+same-length-14 : tie.Need-same-length-14
+same-length-14 c = search needs
+
+same-length-15 : tie.Need-same-length-15
+same-length-15 c = search needs
+
+returns-3 : tie.Need-returns-3
+returns-3 c = search needs
 
 pub follow-spec : {M : Type 1} → statement M
 follow-spec =
@@ -95,13 +119,21 @@ follow-spec =
     same-length-3
     same-length-4
     returns
-    spend-requires
-    spend-requires-2
-    link-requires
+    unchanged-requires
+    steady-requires
     same-length-5
     same-length-6
     same-length-7
     same-length-8
     same-length-9
+    returns-2
+    spend-requires
+    spend-requires-2
+    link-requires
     same-length-10
-    returns-2)
+    same-length-11
+    same-length-12
+    same-length-13
+    same-length-14
+    same-length-15
+    returns-3)

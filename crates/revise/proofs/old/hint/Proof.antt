@@ -1,8 +1,8 @@
--- `run::hint` meets its contract: a place is below 65,536. Assumes nothing.
+-- `old::hint` meets its contract: a place is below 65,536. Assumes nothing.
 use native.Mathlib.Omega.{arith}
 use borrow.Author.Needs.{needs}
-use Rattle.revise.proofs.run.hint.Statement.{statement}
-use Rattle.revise.proofs.run.hint.Tie as tie
+use Rattle.revise.proofs.old.hint.Statement.{statement}
+use Rattle.revise.proofs.old.hint.Tie as tie
 
 mul-wide : tie.Need-mul-wide
 mul-wide c = search needs
