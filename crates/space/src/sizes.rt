@@ -2,7 +2,15 @@
 // The most rows of a master.
 pub const ROWS: usize = 512;
 
+// The bits of a number or a coordinate, which a strip stands above in a key.
+pub const KEY: u32 = 16;
+
 // The bits of a digit, and the buckets that one pass of the sort deals the rows into: one for each digit.
 pub const DIGIT: u32 = 8;
 
 pub const BUCKETS: usize = 256;
+
+// The rows of a block, as join, verify and revise have them, and the strips of a full master, each of as many blocks.
+pub const BLOCK: usize = 32;
+
+pub const SIDE: usize = 4;
