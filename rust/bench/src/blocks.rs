@@ -48,6 +48,17 @@ impl Bounds {
         })
     }
 
+    /// No node of the one block is nearer to one of the other.
+    pub fn gap(&self, other: &Bounds) -> u32 {
+        let nearest = Node {
+            x: other.left.max(self.left).min(self.right),
+            y: other.low.max(self.low).min(self.high),
+            number: 0,
+            left: 0,
+        };
+        other.distance(&nearest)
+    }
+
     /// No node of the block comes before this as a partner of one at that distance.
     pub fn key(&self, distance: u32) -> u64 {
         key(distance, self.least)

@@ -1,6 +1,6 @@
 //! The join of the same method: the nearest-neighbour chain in plain safe Rust.
 //!
-//! A stack of nodes, by turns of A and of B, each the nearest open partner of the
+//! A stack of nodes, by turns of one master and of the other, each the nearest open partner of the
 //! one beneath it. Where the nearest partner of the top is the node beneath it, the
 //! two are each other's nearest and so a link of the join. What is left of the
 //! stack stays true, since partners only ever go away; it is never built anew.
@@ -83,8 +83,9 @@ impl Side {
 pub struct Chain {
     /// A, then B.
     sides: [Side; 2],
-    /// Places; those at even heights are of A.
+    /// Places; those at even heights are of the master of the bottom.
     stack: Vec<u16>,
+    bottom: usize,
 }
 
 impl Chain {
@@ -102,9 +103,10 @@ impl Chain {
         while self.sides.iter().all(|side| side.open > 0) {
             let Some(&top) = self.stack.last() else {
                 self.stack.push(self.sides[0].first());
+                self.bottom = 0;
                 continue;
             };
-            let side = (self.stack.len() - 1) % 2;
+            let side = (self.bottom + self.stack.len() - 1) % 2;
             let nearest = self.nearest(&blocks[1 - side], side, top);
             match self.stack[..] {
                 [.., beneath, _] if beneath == nearest => {
@@ -128,7 +130,8 @@ impl Chain {
     }
 
     /// Links the top and the node beneath it. A used-up node goes from the stack
-    /// with all above it; the node then on top has lost its nearest partner.
+    /// with all above it; the node then on top has lost its nearest partner. Where hardly a node would stay, a top that has
+    /// something left begins a new stack.
     fn link_top(&mut self, side: usize, top: u16, beneath: u16) -> Link {
         let ends = [
             *self.sides[side].node(top),
@@ -137,10 +140,15 @@ impl Chain {
         let amount = ends[0].left.min(ends[1].left);
         let [a, b] = [&ends[side], &ends[1 - side]];
         let taken = link(a, b, amount);
-        self.sides[side].take(top, amount);
+        let top_used_up = self.sides[side].take(top, amount);
         self.stack.pop();
         if self.sides[1 - side].take(beneath, amount) {
             self.stack.pop();
+            if self.stack.len() <= 1 && !top_used_up {
+                self.stack.clear();
+                self.stack.push(top);
+                self.bottom = side;
+            }
         }
         taken
     }

@@ -1,5 +1,5 @@
 //! A lent list checked without a join: its rows one by one, and then the pairs
-//! for one that the list passed over wrongly, a node of one master and a block of the other at a time.
+//! for one that the list passed over wrongly: two blocks at a time, and then a node of one and the block of the other.
 //!
 //! A pair is open where it is earlier than the last link of both its nodes; a
 //! node with something left has no last one. Amounts that are within all
@@ -11,7 +11,7 @@ use std::mem;
 
 use model::sizes::LINK_BYTES;
 
-use crate::blocks::{key, Blocks, BLOCK};
+use crate::blocks::{key, Blocks, Bounds, BLOCK};
 use crate::bytes::{link, parts, refill, rows, Link, Master, Node};
 
 /// What is left of each node of a master, and where its partners end.
@@ -23,8 +23,8 @@ struct Side {
     /// Limits with which no pair is open, and the nodes that they are of.
     known: Vec<u64>,
     nodes: Vec<Node>,
-    /// The places whose limit is later than the known one.
-    later: Vec<usize>,
+    /// The limits that are later than the known ones; the others are 0, before which no pair comes.
+    later: Vec<u64>,
 }
 
 impl Side {
@@ -60,9 +60,13 @@ impl Side {
     }
 
     fn find_later(&mut self) {
-        let limits = self.limits.iter().zip(&self.known).enumerate();
-        let later = limits.filter(|(_, (limit, known))| limit > known);
-        refill(&mut self.later, later.map(|(place, _)| place));
+        let limits = self.limits.iter().zip(&self.known);
+        let later = limits.map(|(limit, known)| if limit > known { *limit } else { 0 });
+        refill(&mut self.later, later);
+    }
+
+    fn all_later(&self) -> bool {
+        self.later == self.limits
     }
 
     /// The limit holds once nothing is left.
@@ -209,7 +213,7 @@ impl Check {
             side.find_later();
         }
         let first = usize::from(spread(&masters[0].nodes) < spread(&masters[1].nodes));
-        let all = self.sides[first].later.len() == masters[first].nodes.len();
+        let all = self.sides[first].all_later();
         self.open_from(first, masters, blocks) || !all && self.open_from(1 - first, masters, blocks)
     }
 
@@ -222,11 +226,42 @@ impl Check {
             &mut self.lanes,
             parts.map(|(nodes, limits)| Lanes::new(nodes, limits)),
         );
-        let Side { later, limits, .. } = &self.sides[side];
-        later.iter().any(|place| {
-            let node = &masters[side].nodes[*place];
-            open_in_blocks(node, limits[*place], &blocks[other], &self.lanes)
+        let groups = masters[side].nodes.chunks(BLOCK);
+        let later = self.sides[side].later.chunks(BLOCK);
+        let mut groups = blocks[side].bounds.iter().zip(groups.zip(later));
+        groups.any(|(bounds, (nodes, limits))| {
+            let group = Group {
+                bounds,
+                nodes,
+                limits,
+            };
+            group.is_open(&blocks[other], &self.lanes)
         })
+    }
+}
+
+/// A block of nodes whose limits are looked at.
+struct Group<'a> {
+    bounds: &'a Bounds,
+    nodes: &'a [Node],
+    limits: &'a [u64],
+}
+
+impl Group<'_> {
+    /// Whether one of its nodes is open with a node of the other master. Skips a block where already the distance of the
+    /// two comes too late for all nodes of one of them.
+    fn is_open(&self, blocks: &Blocks, lanes: &[Lanes]) -> bool {
+        let latest = self.limits.iter().copied().max().unwrap_or(0);
+        blocks.bounds.iter().zip(lanes).any(|(bounds, lanes)| {
+            let gap = self.bounds.gap(bounds);
+            let apart = bounds.key(gap) >= latest || self.bounds.key(gap) >= lanes.latest;
+            !apart && self.is_open_with(bounds, lanes)
+        })
+    }
+
+    fn is_open_with(&self, bounds: &Bounds, lanes: &Lanes) -> bool {
+        let mut nodes = self.nodes.iter().zip(self.limits);
+        nodes.any(|(node, limit)| open_in_block(node, *limit, bounds, lanes))
     }
 }
 
@@ -236,11 +271,12 @@ fn spread(nodes: &[Node]) -> u64 {
     steps.map(|(one, next)| u64::from(one.distance(next))).sum()
 }
 
-/// Skips a block where already its bounds come too late for the node, or for all its own nodes.
-fn open_in_blocks(node: &Node, limit: u64, blocks: &Blocks, lanes: &[Lanes]) -> bool {
-    blocks.bounds.iter().zip(lanes).any(|(bounds, lanes)| {
-        let distance = bounds.distance(node);
-        let late = bounds.key(distance) >= limit || key(distance, node.number) >= lanes.latest;
-        !late && lanes.open_with(node, limit)
-    })
+/// Skips the block where already its bounds come too late for the node, or for all its own nodes.
+fn open_in_block(node: &Node, limit: u64, bounds: &Bounds, lanes: &Lanes) -> bool {
+    if bounds.key(0) >= limit {
+        return false;
+    }
+    let distance = bounds.distance(node);
+    let late = bounds.key(distance) >= limit || key(distance, node.number) >= lanes.latest;
+    !late && lanes.open_with(node, limit)
 }

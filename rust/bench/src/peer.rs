@@ -4,7 +4,7 @@ use model::answer::{answer, Refusal};
 use model::rows::{capacity_in_range, position_in_range, Edit};
 use model::sizes::*;
 
-use crate::bytes::{common, difference, parts, rows, write_from, write_row, Link, Master};
+use crate::bytes::{common, difference, parts, refill, rows, write_from, write_row, Link, Master};
 use crate::calls::Calls;
 
 /// The node that an edit is about.
@@ -18,6 +18,9 @@ pub struct Edited {
 pub trait Method: Default {
     /// Puts the nodes of a master that was just read in the order that the method wants; by default they stay.
     fn arrange(&mut self, _side: usize, _master: &mut Master) {}
+
+    /// The same after an edit, with the numbers in the order that the method wanted before it; by default they stay.
+    fn rearrange(&mut self, _side: usize, _master: &mut Master, _known: &[u16]) {}
 
     /// Puts the links of the join, in pair order, in the place of those given.
     fn join(&mut self, masters: &[Master; 2], links: &mut Vec<Link>);
@@ -43,6 +46,8 @@ pub struct Peer<M> {
     method: M,
     masters: [Master; 2],
     links: Vec<Link>,
+    /// The numbers of the edited master before the edit, in order.
+    known: Vec<u16>,
 }
 
 impl<M: Method> Peer<M> {
@@ -82,9 +87,11 @@ impl<M: Method> Peer<M> {
             side: edit.master as usize,
             number: edit.number as u16,
         };
+        let master = &mut self.masters[edited.side];
+        refill(&mut self.known, master.nodes.iter().map(|node| node.number));
         // The changed table is sound: it was, and the edit is.
-        let _ = self.masters[edited.side].read(table);
-        self.arrange(edited.side);
+        let _ = master.read(table);
+        self.method.rearrange(edited.side, master, &self.known);
         self.method
             .revise(&self.masters, list, edited, &mut self.links);
         let kept = common(list, &self.links);

@@ -34,25 +34,29 @@ impl After<'_> {
         Some(End { side, place })
     }
 
-    /// The nearest partner that has something left; none if there is no such one.
-    fn nearest(&self, from: End, left: &mut Left) -> Option<End> {
+    /// The two nearest partners that have something left; none where there is no such one.
+    fn nearest(&self, from: End, left: &mut Left) -> [Option<End>; 2] {
         let side = 1 - from.side;
         let nodes = &self.masters[side].nodes;
         let from = &self.masters[from.side].nodes[from.place];
-        let mut best = Partner::NONE;
+        let mut best = [Partner::NONE; 2];
         for block in 0..left.boxes.len() {
-            if !left.is_near(block, from, best, nodes) {
+            if !left.is_near(block, from, best[1], nodes) {
                 continue;
             }
             for (place, node) in left.open(block, nodes) {
                 let partner = Partner::new(from, node, place);
-                if partner.key < best.key {
-                    best = partner;
+                if partner.key < best[0].key {
+                    best = [partner, best[0]];
+                } else if partner.key < best[1].key {
+                    best[1] = partner;
                 }
             }
         }
-        let place = best.at;
-        (best.key != Partner::NONE.key).then_some(End { side, place })
+        best.map(|partner| {
+            let place = partner.at;
+            (partner.key != Partner::NONE.key).then_some(End { side, place })
+        })
     }
 
     /// Where the link of two nodes stands in pair order.
@@ -119,6 +123,14 @@ impl Left {
         near(&self.boxes[block])
     }
 
+    fn is_unchanged(&self, place: usize) -> bool {
+        self.old[place] == self.new[place]
+    }
+
+    fn has(&self, place: usize) -> bool {
+        self.new[place] > 0
+    }
+
     /// Takes the amount from a node.
     fn spend(&mut self, place: usize, amount: u16) {
         let left = &mut self.new[place];
@@ -130,12 +142,14 @@ impl Left {
     }
 }
 
-/// A richer node with its nearest open partner; the key is that of their link.
+/// A richer node with its nearest open partner; the key is that of their link. The runner-up follows once the partner is
+/// used up: partners only ever go away.
 #[derive(Clone, Copy)]
 struct Candidate {
     key: u64,
     richer: End,
     partner: End,
+    runner_up: Option<End>,
 }
 
 #[derive(Default)]
@@ -203,10 +217,25 @@ impl Revision {
             return self.compare(after, partner);
         }
         let ends = [after.end(0, a)?, after.end(1, b)?];
+        let unchanged = ends
+            .iter()
+            .all(|end| self.left[end.side].is_unchanged(end.place));
         for end in ends {
             self.pass(end, amount)?;
         }
+        if unchanged {
+            self.keep(ends, (key, amount), links);
+            return Some(());
+        }
         self.take(after, key, ends, links)
+    }
+
+    /// The link of two nodes that have as much left as they had is taken as it was: neither becomes richer.
+    fn keep(&mut self, ends: [End; 2], old: Link, links: &mut Vec<Link>) {
+        links.push(old);
+        for end in ends {
+            self.left[end.side].spend(end.place, old.1);
+        }
     }
 
     /// What the old link took from its node; none if that is more than it had.
@@ -220,14 +249,39 @@ impl Revision {
     fn take_candidates(&mut self, after: After, key: u64, links: &mut Vec<Link>) -> Option<()> {
         while let Some(at) = self.earliest_before(key) {
             let next = self.candidates[at];
-            if self.left[next.partner.side].new[next.partner.place] == 0 {
-                self.candidates.swap_remove(at);
-                self.compare(after, next.richer)?;
-            } else {
+            if self.has(next.partner) {
                 self.take(after, next.key, [next.richer, next.partner], links)?;
+            } else {
+                self.renew(after, at)?;
             }
         }
         Some(())
+    }
+
+    fn has(&self, end: End) -> bool {
+        self.left[end.side].has(end.place)
+    }
+
+    /// The candidate's partner is used up: its runner-up follows, or another one is searched for.
+    fn renew(&mut self, after: After, at: usize) -> Option<()> {
+        let Candidate {
+            richer, runner_up, ..
+        } = self.candidates[at];
+        match runner_up.filter(|end| self.has(*end)) {
+            Some(partner) => {
+                self.candidates[at] = Candidate {
+                    key: after.key(richer, partner),
+                    richer,
+                    partner,
+                    runner_up: None,
+                };
+                Some(())
+            }
+            None => {
+                self.candidates.swap_remove(at);
+                self.compare(after, richer)
+            }
+        }
     }
 
     fn earliest_before(&self, key: u64) -> Option<usize> {
@@ -272,12 +326,13 @@ impl Revision {
     fn search(&mut self, after: After, richer: End) -> Option<()> {
         self.searches += 1;
         let left = &mut self.left[1 - richer.side];
-        if let Some(partner) = after.nearest(richer, left) {
+        if let [Some(partner), runner_up] = after.nearest(richer, left) {
             let key = after.key(richer, partner);
             self.candidates.push(Candidate {
                 key,
                 richer,
                 partner,
+                runner_up,
             });
         }
         let few = self.searches <= MOST_SEARCHES && self.candidates.len() <= MOST_CANDIDATES;

@@ -1,4 +1,4 @@
-//! The engine's own method: nodes in Z-order, the check without a join, the chain, and links that are revised.
+//! The engine's own method: nodes in tiles, the check without a join, the chain, and links that are revised.
 
 use crate::blocks::Blocks;
 use crate::bytes::{rows, Link, Master};
@@ -21,6 +21,11 @@ pub struct Same {
 impl Method for Same {
     fn arrange(&mut self, side: usize, master: &mut Master) {
         master.arrange(self.order.rows(&master.nodes));
+        self.blocks[side].fill(&master.nodes);
+    }
+
+    fn rearrange(&mut self, side: usize, master: &mut Master, known: &[u16]) {
+        master.arrange(self.order.resume(known, master));
         self.blocks[side].fill(&master.nodes);
     }
 

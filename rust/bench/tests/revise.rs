@@ -153,8 +153,8 @@ fn it_gives_up_and_the_join_decides() {
     let cases = [
         (deserted(63), true),
         (deserted(64), false),
-        (chased(32), true),
-        (chased(33), false),
+        (chased(64), true),
+        (chased(65), false),
     ];
     for (place, (done, revises)) in cases.iter().enumerate() {
         let revised = done.revised(&mut Revision::default());
