@@ -3,7 +3,7 @@ use Prim.Native.Nat.{ℕ, _≤_, _<_}
 use mathlib.Core.Path.{_≡_}
 use mathlib.Core.Bool.{Bool, true, false}
 use mathlib.Core.List.{List}
-use lib.IntN.{ℤ, pos, _-ℤ_, natAbs}
+use lib.IntN.{ℤ, pos, natAbs}
 use lib.ListN.{getD}
 use lib.Signed.{_≤ℤ_}
 use mathlib.Core.Logic.{_⊎_}
@@ -31,12 +31,21 @@ pub record Extreme (above : Bool) (xs : List ℤ) (first end r : ℕ) : Type 0 w
   pub to : r < end
   pub most : (k : ℕ) → first ≤ k → k < end → Within above (getD xs r (pos 0)) (getD xs k (pos 0))
 
--- No position from low to high is nearer to p than r, which is one of p, low and high.
+-- q stands between p and u, or at one of them.
+abbrev pub Between : ℤ → ℤ → ℤ → Type 0
+Between p q u = ((p ≤ℤ q) × (q ≤ℤ u)) ⊎ ((u ≤ℤ q) × (q ≤ℤ p))
+
+-- On the way from p to each position from low to high r is passed; it is one of p, low and high.
 pub record Clamped (p low high r : ℤ) : Type 0 where
-  pub nearest : (u : ℤ) → low ≤ℤ u → u ≤ℤ high → natAbs (p -ℤ r) ≤ natAbs (p -ℤ u)
+  pub between : (u : ℤ) → low ≤ℤ u → u ≤ℤ high → Between p r u
   pub small : (n : ℕ) → natAbs p ≤ n → natAbs low ≤ n → natAbs high ≤ n → natAbs r ≤ n
 
 -- No position in the box is nearer to (x, y) than r says.
 pub record Clear (x y left right low high : ℤ) (r : ℕ) : Type 0 where
   pub small : r < 4294967295
   pub nearest : (u v : ℤ) → left ≤ℤ u → u ≤ℤ right → low ≤ℤ v → v ≤ℤ high → r ≤ squaredDistance x y u v
+
+-- No two positions of two boxes are nearer to each other than d says.
+pub record Gap (l r b t left right low high : ℤ) (d : ℕ) : Type 0 where
+  pub small : d < 4294967295
+  pub nearest : (x y u v : ℤ) → l ≤ℤ x → x ≤ℤ r → b ≤ℤ y → y ≤ℤ t → left ≤ℤ u → u ≤ℤ right → low ≤ℤ v → v ≤ℤ high → d ≤ squaredDistance x y u v

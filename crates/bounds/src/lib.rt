@@ -2,7 +2,7 @@
 ghost use Prim.Native.Nat.{_<_, _≤_};
 ghost use lib.ListN.{length};
 ghost use Rattle.matching.specs.Definitions.Columns.{Inside};
-ghost use Rattle.bounds.specs.Boxes.{Ahead, Farther, Extreme, Clamped, Clear};
+ghost use Rattle.bounds.specs.Boxes.{Ahead, Farther, Extreme, Clamped, Clear, Gap};
 
 // Whether p is ahead of q: above it, or below it.
 fn ahead(above: bool, p: i16, q: i16) -> bool
@@ -58,4 +58,12 @@ pub fn clearance(x: i16, y: i16, left: i16, right: i16, low: i16, high: i16) -> 
     ensures { λ r. ⌜ Clear x y left right low high r ⌝ }
 {
     matching::squared_distance(x, y, clamp(x, left, right), clamp(y, low, high))
+}
+
+// The squared distance of two boxes, the first from l to r and from b to t: the second's from the position in the first that is nearest to its lower left corner.
+pub fn gap(l: i16, r: i16, b: i16, t: i16, left: i16, right: i16, low: i16, high: i16) -> u32
+    requires { ⌜ Inside l b × Inside r t × Inside left low × Inside right high ⌝ }
+    ensures { λ d. ⌜ Gap l r b t left right low high d ⌝ }
+{
+    clearance(clamp(left, l, r), clamp(low, b, t), left, right, low, high)
 }

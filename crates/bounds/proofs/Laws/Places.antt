@@ -11,8 +11,11 @@ use lib.Dec.{leb→le, le→leb}
 use lib.IntN.{ℤ, pos, negsuc, _-ℤ_, natAbs}
 use lib.ListN.{getD}
 use lib.Signed.{ltZ, leZ, _≤ℤ_, ≤ℤ-refl}
+use mir.Syntax.{w16}
+use mir.Val.{toZ, ofZ, SFits}
+use mir.Facts.{toZ-ofZ}
 use borrow.Author.Tests.{lt-ltb, le-ltb, ltb-true, ltb-false}
-use Rattle.bounds.specs.Boxes.{Within, Farther, Extreme, Clamped}
+use Rattle.bounds.specs.Boxes.{Within, Farther, Extreme, Between, Clamped}
 
 -- A position on a scale whose zero is at n.
 abbrev place : ℕ → ℤ → ℕ
@@ -24,6 +27,14 @@ le-place n (pos a) (pos b) h = omega (arith, leb→le a b (h .le))
 le-place n (pos a) (negsuc b) h = absurd (h .le)
 le-place n (negsuc a) (pos b) h = omega arith
 le-place n (negsuc a) (negsuc b) h = omega (arith, leb→le b a (h .le))
+
+-- A position inside is read back from its 16 bits.
+pub back : (z : ℤ) → natAbs z ≤ 24576 → toZ w16 (ofZ w16 z) ≡ z
+back z h = toZ-ofZ (fits z h)
+  where
+    fits : (z : ℤ) → natAbs z ≤ 24576 → SFits w16 z
+    fits (pos n) h = record { sfits = omega arith }
+    fits (negsuc n) h = record { sfits = omega arith }
 
 -- What a test of two positions says.
 pub le-lt : (x y : ℤ) → ltZ x y ≡ true → x ≤ℤ y
@@ -82,33 +93,67 @@ abs-place n (negsuc a) (pos b) h k = omega (arith, abs-mixed a b)
 abs-place n (negsuc a) (negsuc b) h k = omega (arith, abs-negative a b)
 
 -- Of three positions the middle one is nearer to either end than the other end is.
-between : (p q u : ℤ) → ((p ≤ℤ q) × (q ≤ℤ u)) ⊎ ((u ≤ℤ q) × (q ≤ℤ p)) → natAbs (p -ℤ q) ≤ natAbs (p -ℤ u)
-between p q u h = go h
-  where
-    n : ℕ
-    n = natAbs p + natAbs q + natAbs u
+module _ (p q u : ℤ) where
+  pub between-near : Between p q u → (natAbs (p -ℤ q) ≤ natAbs (p -ℤ u)) × (natAbs (q -ℤ u) ≤ natAbs (p -ℤ u))
+  between-near h = go h
+    where
+      n : ℕ
+      n = natAbs p + natAbs q + natAbs u
 
-    go : ((p ≤ℤ q) × (q ≤ℤ u)) ⊎ ((u ≤ℤ q) × (q ≤ℤ p)) → natAbs (p -ℤ q) ≤ natAbs (p -ℤ u)
-    go (inl h) = omega (arith, abs-place n p q (omega arith) (omega arith), abs-place n p u (omega arith) (omega arith), le-place n p q (h .0), le-place n q u (h .1))
-    go (inr h) = omega (arith, abs-place n p q (omega arith) (omega arith), abs-place n p u (omega arith) (omega arith), le-place n u q (h .0), le-place n q p (h .1))
+      pq : natAbs (p -ℤ q) ≡ (place n p - place n q) + (place n q - place n p)
+      pq = abs-place n p q (omega arith) (omega arith)
+
+      qu : natAbs (q -ℤ u) ≡ (place n q - place n u) + (place n u - place n q)
+      qu = abs-place n q u (omega arith) (omega arith)
+
+      pu : natAbs (p -ℤ u) ≡ (place n p - place n u) + (place n u - place n p)
+      pu = abs-place n p u (omega arith) (omega arith)
+
+      go : Between p q u → (natAbs (p -ℤ q) ≤ natAbs (p -ℤ u)) × (natAbs (q -ℤ u) ≤ natAbs (p -ℤ u))
+      go (inl h) = (omega (arith, pq, pu, le-place n p q (h .0), le-place n q u (h .1)), omega (arith, qu, pu, le-place n p q (h .0), le-place n q u (h .1)))
+      go (inr h) = (omega (arith, pq, pu, le-place n u q (h .0), le-place n q p (h .1)), omega (arith, qu, pu, le-place n u q (h .0), le-place n q p (h .1)))
+
+-- Of two positions one is at most the other.
+either : (x y : ℤ) → (x ≤ℤ y) ⊎ (y ≤ℤ x)
+either x y = go (ltZ x y) refl
+  where
+    go : (t : Bool) → ltZ x y ≡ t → (x ≤ℤ y) ⊎ (y ≤ℤ x)
+    go true e = inl (le-lt x y e)
+    go false e = inr (le-not x y e)
 
 -- The three answers of a clamp.
 module _ (p low high : ℤ) where
   pub clamp-low : p ≤ℤ low → Clamped p low high low
-  clamp-low h = record { nearest = λ u a b. between p low u (inl (h, a)); small = λ n a b c. b }
+  clamp-low h = record { between = λ u a b. inl (h, a); small = λ n a b c. b }
 
   pub clamp-high : high ≤ℤ p → Clamped p low high high
-  clamp-high h = record { nearest = λ u a b. between p high u (inr (b, h)); small = λ n a b c. c }
+  clamp-high h = record { between = λ u a b. inr (b, h); small = λ n a b c. c }
 
   pub clamp-here : Clamped p low high p
-  clamp-here = record { nearest = λ u a b. between p p u (side u); small = λ n a b c. a }
+  clamp-here = record { between = λ u a b. side u (either u p); small = λ n a b c. a }
     where
-      side : (u : ℤ) → ((p ≤ℤ p) × (p ≤ℤ u)) ⊎ ((u ≤ℤ p) × (p ≤ℤ p))
-      side u = go (ltZ u p) refl
-        where
-          go : (t : Bool) → ltZ u p ≡ t → ((p ≤ℤ p) × (p ≤ℤ u)) ⊎ ((u ≤ℤ p) × (p ≤ℤ p))
-          go true e = inr (le-lt u p e, ≤ℤ-refl p)
-          go false e = inl (≤ℤ-refl p, le-not u p e)
+      side : (u : ℤ) → (u ≤ℤ p) ⊎ (p ≤ℤ u) → Between p p u
+      side u (inl h) = inr (h, ≤ℤ-refl p)
+      side u (inr h) = inl (≤ℤ-refl p, h)
+
+-- A position from low to high that is at most n away from c.
+pub record Near (c low high : ℤ) (n : ℕ) : Type 0 where
+  pub at : ℤ
+  pub from : low ≤ℤ at
+  pub to : at ≤ℤ high
+  pub away : natAbs (c -ℤ at) ≤ n
+
+-- Two ranges: where low is clamped into the first, the second reaches as near to that as any two positions of the ranges are to each other.
+pub clamp-near : (low l r c high x u : ℤ) → Clamped low l r c → l ≤ℤ x → x ≤ℤ r → low ≤ℤ u → u ≤ℤ high → Near c low high (natAbs (x -ℤ u))
+clamp-near low l r c high x u k a b d e = go (k .between x a b) (either u c)
+  where
+    at-u : Between x c u → Near c low high (natAbs (x -ℤ u))
+    at-u h = record { at = u; from = d; to = e; away = between-near x c u h .1 }
+
+    go : Between low c x → (u ≤ℤ c) ⊎ (c ≤ℤ u) → Near c low high (natAbs (x -ℤ u))
+    go (inr h) m = at-u (inl (h .0, le-then c low u (h .1) d))
+    go (inl h) (inl m) = at-u (inr (m, h .1))
+    go (inl h) (inr m) = record { at = c; from = h .0; to = le-then c u high m e; away = omega (arith, abs-place (natAbs c) c c (omega arith) (omega arith)) }
 
 -- The farthest of some rows, and of one more.
 module _ (above : Bool) (xs : List ℤ) (first : ℕ) where

@@ -1,17 +1,14 @@
 -- `bounds::clearance` meets its contract: along each axis the clamped position is nearest, and stays inside. Assumes nothing.
-use Prim.Native.Nat.{_≤_}
 use mathlib.Core.Path.{_≡_}
 use native.Mathlib.Nat.{mul-le-mul}
 use native.Mathlib.Omega.{arith}
-use lib.IntN.{ℤ, pos, negsuc, natAbs}
 use borrow.Author.Needs.{needs}
-use mir.Syntax.{w16}
-use mir.Val.{toZ, ofZ, SFits}
 use mir.Facts.{toZ-ofZ}
 use Rattle.matching.specs.Definitions.Pairs.{squaredDistance}
 use Rattle.matching.specs.Definitions.Columns.{Inside, Reach}
 use Rattle.matching.specs.Laws.Distance.{inside-reach, distance-fits}
 use Rattle.bounds.specs.Boxes.{Clamped}
+use Rattle.bounds.proofs.Laws.Places.{back, between-near}
 use Rattle.bounds.proofs.clearance.Statement.{statement}
 use Rattle.bounds.proofs.clearance.Tie as tie
 
@@ -20,14 +17,6 @@ clamp-requires c κs = search needs
 
 clamp-requires-2 : tie.Need-clamp-requires-2
 clamp-requires-2 c κs = search needs
-
--- a position inside is read back from its 16 bits
-back : (z : ℤ) → natAbs z ≤ 24576 → toZ w16 (ofZ w16 z) ≡ z
-back z h = toZ-ofZ (fits z h)
-  where
-    fits : (z : ℤ) → natAbs z ≤ 24576 → SFits w16 z
-    fits (pos n) h = record { sfits = omega arith }
-    fits (negsuc n) h = record { sfits = omega arith }
 
 -- along each axis
 across : (c : tie.After-clamp2) → let s = c .before .before .args in Clamped (s .x) (s .left) (s .right) (c .before .clamp .result)
@@ -58,8 +47,8 @@ returns : tie.Need-returns
 returns c = let s = c .before .before .before .args in record {
   small = rw (is c) (distance-fits (s .x) (s .y) (c .before .before .clamp .result) (c .before .clamp2 .result) (reach (c .before)));
   nearest = λ u v a b d e.
-      let h = across (c .before) .nearest u a b in
-      let k = up (c .before) .nearest v d e in
+      let h = between-near _ _ _ (across (c .before) .between u a b) .0 in
+      let k = between-near _ _ _ (up (c .before) .between v d e) .0 in
       rw (is c) (omega (arith, mul-le-mul h h, mul-le-mul k k));
 }
 
