@@ -2,11 +2,11 @@
 use super::blocks;
 use super::blocks::Block;
 use crate::sizes;
-ghost use Prim.Native.Nat.{ℕ, _+_, _≤_, _<_};
+ghost use Prim.Native.Nat.{ℕ, _+_, _*_, _≤_, _<_, min};
 ghost use mathlib.Core.Path.{_≡_};
 ghost use mathlib.Core.Bool.{false};
 ghost use lib.ListN.{length, getD};
-ghost use Rattle.join.specs.Sizes.{masterRows};
+ghost use Rattle.join.specs.Sizes.{masterRows, blockRows};
 ghost use Rattle.verify.specs.Open.{late as lateOf, Ruled, Shut};
 ghost use Rattle.verify.specs.Blocks.{Encloses, Surveyed};
 
@@ -106,10 +106,9 @@ fn open_in(
     open_row(i, first, end, an, ax, ay, af, ah, bn, bx, by, bf, bh) != 0
 }
 
-// Some pair of A's places from start to stop and the block of B's places from first to end is.
+// Some pair of the places of A's block g and the block of B's places from first to end is.
 fn open_group(
-    start: usize,
-    stop: usize,
+    g: usize,
     block: Block,
     first: usize,
     end: usize,
@@ -124,11 +123,12 @@ fn open_group(
     bf: &[u32],
     bh: &[u32],
 ) -> bool
-    requires { ⌜ ((i : ℕ) → i < length (now an) → Ruled (now an) (now ax) (now ay) (now af) (now ah) i) × ((j : ℕ) → j < length (now bn) → Ruled (now bn) (now bx) (now by) (now bf) (now bh) j) × (stop ≤ length (now an)) × (end ≤ length (now bn)) × (length (now bn) ≤ masterRows) ⌝ }
+    requires { ⌜ ((i : ℕ) → i < length (now an) → Ruled (now an) (now ax) (now ay) (now af) (now ah) i) × ((j : ℕ) → j < length (now bn) → Ruled (now bn) (now bx) (now by) (now bf) (now bh) j) × (g * blockRows < length (now an)) × (length (now an) ≤ masterRows) × (end ≤ length (now bn)) × (length (now bn) ≤ masterRows) ⌝ }
     requires { ⌜ Encloses (now bn) (now bx) (now by) (now bf) (now bh) first end block ⌝ }
-    ensures { λ r. ⌜ (r ≡ false → (i : ℕ) → start ≤ i → i < stop → (j : ℕ) → first ≤ j → j < end → Shut (now (an .entry)) (now (ax .entry)) (now (ay .entry)) (now (af .entry)) (now (ah .entry)) (now (bn .entry)) (now (bx .entry)) (now (by .entry)) (now (bf .entry)) (now (bh .entry)) i j) ⌝ }
+    ensures { λ r. ⌜ (r ≡ false → (i : ℕ) → i < length (now (an .entry)) → g * blockRows ≤ i → i < (g + 1) * blockRows → (j : ℕ) → first ≤ j → j < end → Shut (now (an .entry)) (now (ax .entry)) (now (ay .entry)) (now (af .entry)) (now (ah .entry)) (now (bn .entry)) (now (bx .entry)) (now (by .entry)) (now (bf .entry)) (now (bh .entry)) i j) ⌝ }
 {
-    let mut i = start;
+    let mut i = g * sizes::BLOCK;
+    let stop = blocks::end(i, an.len());
     while i < stop {
         if open_in(i, block, first, end, an, ax, ay, af, ah, bn, bx, by, bf, bh) {
             return true;
@@ -138,11 +138,10 @@ fn open_group(
     false
 }
 
-// Some pair of A's block and B's is: of A's places from start to stop and B's from first to end.
+// The same, where the group encloses A's places: two blocks that are apart are skipped.
 fn open_between(
+    g: usize,
     group: Block,
-    start: usize,
-    stop: usize,
     block: Block,
     first: usize,
     end: usize,
@@ -157,30 +156,14 @@ fn open_between(
     bf: &[u32],
     bh: &[u32],
 ) -> bool
-    requires { ⌜ ((i : ℕ) → i < length (now an) → Ruled (now an) (now ax) (now ay) (now af) (now ah) i) × ((j : ℕ) → j < length (now bn) → Ruled (now bn) (now bx) (now by) (now bf) (now bh) j) × (stop ≤ length (now an)) × (end ≤ length (now bn)) × (length (now bn) ≤ masterRows) ⌝ }
-    requires { ⌜ Encloses (now an) (now ax) (now ay) (now af) (now ah) start stop group × Encloses (now bn) (now bx) (now by) (now bf) (now bh) first end block ⌝ }
-    ensures { λ r. ⌜ (r ≡ false → (i : ℕ) → start ≤ i → i < stop → (j : ℕ) → first ≤ j → j < end → Shut (now (an .entry)) (now (ax .entry)) (now (ay .entry)) (now (af .entry)) (now (ah .entry)) (now (bn .entry)) (now (bx .entry)) (now (by .entry)) (now (bf .entry)) (now (bh .entry)) i j) ⌝ }
+    requires { ⌜ ((i : ℕ) → i < length (now an) → Ruled (now an) (now ax) (now ay) (now af) (now ah) i) × ((j : ℕ) → j < length (now bn) → Ruled (now bn) (now bx) (now by) (now bf) (now bh) j) × (g * blockRows < length (now an)) × (length (now an) ≤ masterRows) × (end ≤ length (now bn)) × (length (now bn) ≤ masterRows) ⌝ }
+    requires { ⌜ Encloses (now an) (now ax) (now ay) (now af) (now ah) (g * blockRows) (min (g * blockRows + blockRows) (length (now an))) group × Encloses (now bn) (now bx) (now by) (now bf) (now bh) first end block ⌝ }
+    ensures { λ r. ⌜ (r ≡ false → (i : ℕ) → i < length (now (an .entry)) → g * blockRows ≤ i → i < (g + 1) * blockRows → (j : ℕ) → first ≤ j → j < end → Shut (now (an .entry)) (now (ax .entry)) (now (ay .entry)) (now (af .entry)) (now (ah .entry)) (now (bn .entry)) (now (bx .entry)) (now (by .entry)) (now (bf .entry)) (now (bh .entry)) i j) ⌝ }
 {
     if blocks::apart(group, block) {
         return false;
     }
-    open_group(
-        start,
-        stop,
-        block,
-        first,
-        end,
-        an,
-        ax,
-        ay,
-        af,
-        ah,
-        bn,
-        bx,
-        by,
-        bf,
-        bh,
-    )
+    open_group(g, block, first, end, an, ax, ay, af, ah, bn, bx, by, bf, bh)
 }
 
 // Some pair of A's places, which the groups enclose, and B's places from first to end is.
@@ -206,13 +189,10 @@ fn open_block(
     let block = blocks::enclose(first, end, bn, bx, by, bf, bh);
     let mut g = 0;
     while g * sizes::BLOCK < an.len() {
-        let start = g * sizes::BLOCK;
-        let stop = blocks::end(start, an.len());
         let group = groups[g];
         if open_between(
+            g,
             group,
-            start,
-            stop,
             block,
             first,
             end,

@@ -25,12 +25,6 @@ loop-holds c = (omega arith, λ i h. absurd (omega arith))
 mul-loop : tie.Need-mul-loop Inv-loop μ-loop
 mul-loop c = omega arith
 
-mul-start : tie.Need-mul-start Inv-loop μ-loop
-mul-start c = omega arith
-
-end-requires : tie.Need-end-requires Inv-loop μ-loop
-end-requires c κs = c .loop-test .taken
-
 mul-group : tie.Need-mul-group Inv-loop μ-loop
 mul-group c = omega arith
 
@@ -39,9 +33,9 @@ array-copy-out-group c = omega arith
 
 open-between-requires : tie.Need-open-between-requires Inv-loop μ-loop
 open-between-requires c κs =
-    let p = c .before .before .before .before .before .before .before .before .before .before .before .pre in
-    let e = c .before .end .ensures in
-    ((p .0 .0, p .0 .1, e .1, p .0 .4, p .0 .5), (rw (e .2) (p .1 (c .before .before .before .loop .g) (c .before .before .loop-test .taken)), c .before .before .before .before .enclose .ensures))
+    let p = c .before .before .before .before .before .before .before .before .before .before .pre in
+    let t = c .before .loop-test .taken in
+    ((p .0 .0, p .0 .1, t, p .0 .2, p .0 .4, p .0 .5), (p .1 (c .before .before .loop .g) t, c .before .before .before .enclose .ensures))
 
 returns : tie.Need-returns Inv-loop μ-loop
 returns c = λ h. absurd (false≢true (sym h))
@@ -53,10 +47,7 @@ loop-less : tie.Need-loop-less Inv-loop μ-loop
 loop-less c = omega arith
 
 loop-again : tie.Need-loop-again Inv-loop μ-loop
-loop-again c =
-    let l = c .before .before .before .before .before .loop in
-    let e = c .before .before .before .end .ensures in
-    (omega (arith, c .before .before .before .before .before .before .before .before .before .before .before .before .before .pre .0 .2), λ i h a. block-more _ (l .g * blockRows) (c .before .before .before .end .result) (λ k m. l .inv .1 k m (omega (arith, e .0, e .1))) (c .before .open-between .ensures (c .if1 .left)) i (omega (arith, e .2)))
+loop-again c = (omega (arith, c .before .before .before .before .before .before .before .before .before .before .before .before .pre .0 .2), block-more _ _ _ (c .before .before .before .before .loop .inv .1) (λ i a h l. c .before .open-between .ensures (c .if1 .left) i l a h))
 
 returns-2 : tie.Need-returns-2 Inv-loop μ-loop
 returns-2 c = λ w i h. c .before .loop .inv .1 i (omega arith) h
@@ -70,8 +61,6 @@ open-block-spec =
     enclose-requires
     loop-holds
     mul-loop
-    mul-start
-    end-requires
     mul-group
     array-copy-out-group
     open-between-requires
