@@ -110,7 +110,7 @@ fn empty() -> Block {
     }
 }
 
-// All rows, block by block.
+// The blocks of all rows.
 pub fn survey(
     ns: &[u32],
     xs: &[i16],

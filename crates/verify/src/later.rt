@@ -15,7 +15,7 @@ fn later(i: usize, far: &[u32], high: &[u32], nf: &[u32], nh: &[u32]) -> bool
     pack(far[i], high[i]) < pack(nf[i], nh[i])
 }
 
-// The limits of the places below n that have; ef and eh keep what they are lent with elsewhere.
+// Puts the limits of the places below n that have into ef and eh; elsewhere what is lent there stays.
 pub fn only_later(
     n: usize,
     far: &[u32],

@@ -5,7 +5,7 @@ use crate::sizes;
 ghost use Prim.Native.Nat.{ℕ, _+_, _*_, _≤_, _<_, min};
 ghost use mathlib.Core.Path.{_≡_};
 ghost use mathlib.Core.Bool.{false};
-ghost use lib.ListN.{length, getD};
+ghost use lib.ListN.{length};
 ghost use Rattle.join.specs.Sizes.{masterRows, blockRows};
 ghost use Rattle.verify.specs.Open.{late as lateOf, Ruled, Shut};
 ghost use Rattle.verify.specs.Blocks.{Encloses, Surveyed};
@@ -138,11 +138,11 @@ fn open_group(
     false
 }
 
-// The same, where the group encloses A's places: two blocks that are apart are skipped.
+// The same, where s encloses A's places and t B's: two blocks that are apart are skipped.
 fn open_between(
     g: usize,
-    group: Block,
-    block: Block,
+    s: Block,
+    t: Block,
     first: usize,
     end: usize,
     an: &[u32],
@@ -157,13 +157,13 @@ fn open_between(
     bh: &[u32],
 ) -> bool
     requires { ⌜ ((i : ℕ) → i < length (now an) → Ruled (now an) (now ax) (now ay) (now af) (now ah) i) × ((j : ℕ) → j < length (now bn) → Ruled (now bn) (now bx) (now by) (now bf) (now bh) j) × (g * blockRows < length (now an)) × (length (now an) ≤ masterRows) × (end ≤ length (now bn)) × (length (now bn) ≤ masterRows) ⌝ }
-    requires { ⌜ Encloses (now an) (now ax) (now ay) (now af) (now ah) (g * blockRows) (min (g * blockRows + blockRows) (length (now an))) group × Encloses (now bn) (now bx) (now by) (now bf) (now bh) first end block ⌝ }
+    requires { ⌜ Encloses (now an) (now ax) (now ay) (now af) (now ah) (g * blockRows) (min (g * blockRows + blockRows) (length (now an))) s × Encloses (now bn) (now bx) (now by) (now bf) (now bh) first end t ⌝ }
     ensures { λ r. ⌜ (r ≡ false → (i : ℕ) → i < length (now (an .entry)) → g * blockRows ≤ i → i < (g + 1) * blockRows → (j : ℕ) → first ≤ j → j < end → Shut (now (an .entry)) (now (ax .entry)) (now (ay .entry)) (now (af .entry)) (now (ah .entry)) (now (bn .entry)) (now (bx .entry)) (now (by .entry)) (now (bf .entry)) (now (bh .entry)) i j) ⌝ }
 {
-    if blocks::apart(group, block) {
+    if blocks::apart(s, t) {
         return false;
     }
-    open_group(g, block, first, end, an, ax, ay, af, ah, bn, bx, by, bf, bh)
+    open_group(g, t, first, end, an, ax, ay, af, ah, bn, bx, by, bf, bh)
 }
 
 // Some pair of A's places, which the groups enclose, and B's places from first to end is.
@@ -186,27 +186,11 @@ fn open_block(
     requires { ⌜ Surveyed (now an) (now ax) (now ay) (now af) (now ah) groups ⌝ }
     ensures { λ r. ⌜ (r ≡ false → (i : ℕ) → i < length (now (an .entry)) → (j : ℕ) → first ≤ j → j < end → Shut (now (an .entry)) (now (ax .entry)) (now (ay .entry)) (now (af .entry)) (now (ah .entry)) (now (bn .entry)) (now (bx .entry)) (now (by .entry)) (now (bf .entry)) (now (bh .entry)) i j) ⌝ }
 {
-    let block = blocks::enclose(first, end, bn, bx, by, bf, bh);
+    let t = blocks::enclose(first, end, bn, bx, by, bf, bh);
     let mut g = 0;
     while g * sizes::BLOCK < an.len() {
-        let group = groups[g];
-        if open_between(
-            g,
-            group,
-            block,
-            first,
-            end,
-            an,
-            ax,
-            ay,
-            af,
-            ah,
-            bn,
-            bx,
-            by,
-            bf,
-            bh,
-        ) {
+        let s = groups[g];
+        if open_between(g, s, t, first, end, an, ax, ay, af, ah, bn, bx, by, bf, bh) {
             return true;
         }
         g += 1;

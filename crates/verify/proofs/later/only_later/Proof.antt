@@ -1,5 +1,4 @@
 -- `later::only_later` meets its contract: the places before i that have a later limit have it. Assumes nothing.
-use borrow.Author.Needs.{needs}
 use borrow.Author.Count.{below-none, below-more}
 use mathlib.Core.Logic.{⊎-elim}
 use mathlib.Core.Path.{_≡_, refl}

@@ -11,10 +11,10 @@ use Rattle.verify.proofs.open.open_block.Statement.{statement}
 use Rattle.verify.proofs.open.open_block.Tie as tie
 
 abbrev Inv-loop : tie.InvT-loop
-Inv-loop first end an ax ay af ah bn bx by bf bh groups block g₀ g = (g ≤ masterBlocks) × ((i : ℕ) → i < g * blockRows → i < length an → (j : ℕ) → first ≤ j → j < end → Shut an ax ay af ah bn bx by bf bh i j)
+Inv-loop first end an ax ay af ah bn bx by bf bh groups t g₀ g = (g ≤ masterBlocks) × ((i : ℕ) → i < g * blockRows → i < length an → (j : ℕ) → first ≤ j → j < end → Shut an ax ay af ah bn bx by bf bh i j)
 
 abbrev μ-loop : tie.MeasureT-loop
-μ-loop first end an ax ay af ah bn bx by bf bh groups block g₀ g = length an - g
+μ-loop first end an ax ay af ah bn bx by bf bh groups t g₀ g = length an - g
 
 enclose-requires : tie.Need-enclose-requires Inv-loop μ-loop
 enclose-requires c κs = let p = c .before .before .before .before .before .before .pre .0 in (p .3, p .4, p .1)
@@ -25,11 +25,11 @@ loop-holds c = (omega arith, λ i h. absurd (omega arith))
 mul-loop : tie.Need-mul-loop Inv-loop μ-loop
 mul-loop c = omega arith
 
-mul-group : tie.Need-mul-group Inv-loop μ-loop
-mul-group c = omega arith
+mul-s : tie.Need-mul-s Inv-loop μ-loop
+mul-s c = omega arith
 
-array-copy-out-group : tie.Need-array-copy-out-group Inv-loop μ-loop
-array-copy-out-group c = omega arith
+array-copy-out-s : tie.Need-array-copy-out-s Inv-loop μ-loop
+array-copy-out-s c = omega arith
 
 open-between-requires : tie.Need-open-between-requires Inv-loop μ-loop
 open-between-requires c κs =
@@ -61,8 +61,8 @@ open-block-spec =
     enclose-requires
     loop-holds
     mul-loop
-    mul-group
-    array-copy-out-group
+    mul-s
+    array-copy-out-s
     open-between-requires
     returns
     add-g
