@@ -36,16 +36,14 @@ module _ (far high nf nh : List ℕ) where
     pub small : getD high i 0 < numberRange
     pub least : limitKey nf nh i ≤ limitKey far high i
 
-  -- Place i has no later limit than before, or is one of the first count that are listed.
-  pub data Seen (count : ℕ) (places : List ℕ) (i : ℕ) : Type 0 where
-    kept : Kept i → Seen count places i
-    listed : (k : ℕ) → k < count → getD places k 0 ≡ i → Seen count places i
+  -- Place i has no later limit than before, or the new one is (f, h).
+  pub data Taken (f h i : ℕ) : Type 0 where
+    kept : Kept i → Taken f h i
+    taken : f ≡ getD nf i 0 → h ≡ getD nh i 0 → Taken f h i
 
-  -- The places below n that have a later limit are listed.
-  pub record Listed (n count : ℕ) (places : List ℕ) : Type 0 where
-    pub most : count ≤ n
-    pub below : (k : ℕ) → k < count → getD places k 0 < n
-    pub seen : (i : ℕ) → i < n → Seen count places i
+  -- Those of the places below n that have a later limit than before have it in ef and eh.
+  pub record OnlyLater (n : ℕ) (ef eh : List ℕ) : Type 0 where
+    pub takes : (i : ℕ) → i < n → Taken (getD ef i 0) (getD eh i 0) i
 
   -- Place i has a later limit than before, or one that shuts all its pairs.
   pub data Moved (i : ℕ) : Type 0 where

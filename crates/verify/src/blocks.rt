@@ -1,15 +1,15 @@
-// Blocks of rows that follow each other: a row that is past a whole block is told without a look at the block's rows.
+// Blocks of rows that follow each other: a row that is past a whole block, and two blocks that are apart, are told without a look at the blocks' rows.
 use crate::sizes;
 use join::nearest::pack;
-ghost use Prim.Native.Nat.{ℕ, _+_, _*_, _≤_, _<_};
+ghost use Prim.Native.Nat.{ℕ, _+_, _*_, _≤_, _<_, min};
 ghost use mathlib.Core.Path.{_≡_};
 ghost use mathlib.Core.Bool.{true};
 ghost use lib.IntN.{ℤ, pos};
 ghost use lib.ListN.{length, getD};
 ghost use Rattle.matching.specs.Definitions.Pairs.{squaredDistance};
-ghost use Rattle.join.specs.Sizes.{numberRange};
+ghost use Rattle.join.specs.Sizes.{masterRows, blockRows, numberRange};
 ghost use Rattle.verify.specs.Open.{Ruled, Closed};
-ghost use Rattle.verify.specs.Blocks.{Inner, Holds, Encloses};
+ghost use Rattle.verify.specs.Blocks.{Inner, Holds, Encloses, Surveyed};
 
 // A box around the positions of some rows, their least number, and the greatest key among their limits.
 pub struct Block {
@@ -24,7 +24,7 @@ pub struct Block {
 // Where the block that begins at first ends.
 pub fn end(first: usize, rows: usize) -> usize
     requires { ⌜ first < rows ⌝ }
-    ensures { λ r. ⌜ (first < r) × (r ≤ rows) ⌝ }
+    ensures { λ r. ⌜ (first < r) × (r ≤ rows) × (r ≡ min (first + blockRows) rows) ⌝ }
 {
     if rows - first < sizes::BLOCK {
         return rows;
@@ -99,6 +99,39 @@ pub fn enclose(
     }
 }
 
+fn empty() -> Block {
+    Block {
+        left: 0,
+        right: 0,
+        bottom: 0,
+        top: 0,
+        least: 0,
+        limit: 0,
+    }
+}
+
+// The blocks of all rows.
+pub fn survey(
+    ns: &[u32],
+    xs: &[i16],
+    ys: &[i16],
+    far: &[u32],
+    high: &[u32],
+) -> [Block; sizes::BLOCKS]
+    requires { ⌜ (length (now ns) ≤ masterRows) × ((k : ℕ) → k < length (now ns) → Ruled (now ns) (now xs) (now ys) (now far) (now high) k) ⌝ }
+    ensures { λ r. ⌜ Surveyed (now (ns .entry)) (now (xs .entry)) (now (ys .entry)) (now (far .entry)) (now (high .entry)) r ⌝ }
+{
+    let none = empty();
+    let mut blocks = [none; sizes::BLOCKS];
+    let mut b = 0;
+    while b * sizes::BLOCK < ns.len() {
+        let first = b * sizes::BLOCK;
+        blocks[b] = enclose(first, end(first, ns.len()), ns, xs, ys, far, high);
+        b += 1;
+    }
+    blocks
+}
+
 // Place i is past the block: each pair of the two is at or past the limit of place i, or each is at or past that of its row.
 pub fn is_past(
     i: usize,
@@ -112,9 +145,34 @@ pub fn is_past(
     requires { ⌜ Ruled (now ns) (now xs) (now ys) (now far) (now high) i × Inner s ⌝ }
     ensures { λ r. ⌜ (r ≡ true → (u v : ℤ) (n f h : ℕ) → Holds s u v n f h → Closed (squaredDistance (getD (now (xs .entry)) i (pos 0)) (getD (now (ys .entry)) i (pos 0)) u v) (getD (now (ns .entry)) i 0) (getD (now (far .entry)) i 0) (getD (now (high .entry)) i 0) n f h) ⌝ }
 {
+    let limit = pack(far[i], high[i]);
+    if pack(0, s.least) >= limit {
+        return true;
+    }
     let d = bounds::clearance(xs[i], ys[i], s.left, s.right, s.bottom, s.top);
-    if pack(d, s.least) >= pack(far[i], high[i]) {
+    if pack(d, s.least) >= limit {
         return true;
     }
     pack(d, ns[i]) >= s.limit
+}
+
+// Two blocks are apart: each pair of their rows is at or past the limit of its row of s, or each is at or past that of its row of t.
+pub fn apart(s: Block, t: Block) -> bool
+    requires { ⌜ Inner s × Inner t ⌝ }
+    ensures { λ r. ⌜ (r ≡ true → (u v : ℤ) (n f h : ℕ) → Holds s u v n f h → (x y : ℤ) (m g k : ℕ) → Holds t x y m g k → Closed (squaredDistance u v x y) n f h m g k) ⌝ }
+{
+    let d = bounds::gap(
+        s.left,
+        s.right,
+        s.bottom,
+        s.top,
+        t.left,
+        t.right,
+        t.bottom,
+        t.top,
+    );
+    if pack(d, t.least) >= s.limit {
+        return true;
+    }
+    pack(d, s.least) >= t.limit
 }

@@ -4,7 +4,7 @@ ghost use mathlib.Core.Path.{_≡_};
 ghost use mathlib.Core.Bool.{true, false};
 ghost use lib.ListN.{length};
 ghost use Rattle.join.specs.Sizes.{masterRows};
-ghost use Rattle.verify.specs.Later.{Known, Later, Kept, Listed, Moved};
+ghost use Rattle.verify.specs.Later.{Known, Later, Kept, OnlyLater, Moved};
 use join::nearest::pack;
 
 // Place i has.
@@ -15,28 +15,27 @@ fn later(i: usize, far: &[u32], high: &[u32], nf: &[u32], nh: &[u32]) -> bool
     pack(far[i], high[i]) < pack(nf[i], nh[i])
 }
 
-// Lists the places below n that have; gives how many these are.
-pub fn list(
+// Puts the limits of the places below n that have into ef and eh; elsewhere what is lent there stays.
+pub fn only_later(
     n: usize,
     far: &[u32],
     high: &[u32],
     nf: &[u32],
     nh: &[u32],
-    places: &mut [u16],
-) -> usize
-    requires { ⌜ (n ≤ masterRows) × (length (now places) ≡ masterRows) × ((i : ℕ) → i < n → Known (now far) (now high) (now nf) (now nh) i) ⌝ }
-    ensures { λ r. ⌜ Listed (now (far .entry)) (now (high .entry)) (now (nf .entry)) (now (nh .entry)) n r (now (places .exit)) ⌝ }
+    ef: &mut [u32],
+    eh: &mut [u32],
+)
+    requires { ⌜ (n ≤ masterRows) × (length (now ef) ≡ masterRows) × (length (now eh) ≡ masterRows) × ((i : ℕ) → i < n → Known (now far) (now high) (now nf) (now nh) i) ⌝ }
+    ensures { λ _. ⌜ OnlyLater (now (far .entry)) (now (high .entry)) (now (nf .entry)) (now (nh .entry)) n (now (ef .exit)) (now (eh .exit)) ⌝ }
 {
-    let mut count = 0;
     let mut i = 0;
     while i < n {
-        places[count] = i as u16;
         if later(i, far, high, nf, nh) {
-            count += 1;
+            ef[i] = nf[i];
+            eh[i] = nh[i];
         }
         i += 1;
     }
-    count
 }
 
 // Place i has, or its limit shuts all its pairs.

@@ -1,14 +1,14 @@
-// A pass over the pairs of some of A's places, B's block by block: is one of them ahead of the limits of both its nodes? Then it is missing among the links.
+// A pass over the pairs of A's places and B's, both block by block: is one of them ahead of the limits of both its nodes? Then it is missing among the links.
 use super::blocks;
 use super::blocks::Block;
-use super::rows::place;
-ghost use Prim.Native.Nat.{ℕ, _+_, _≤_, _<_};
+use crate::sizes;
+ghost use Prim.Native.Nat.{ℕ, _+_, _*_, _≤_, _<_, min};
 ghost use mathlib.Core.Path.{_≡_};
 ghost use mathlib.Core.Bool.{false};
-ghost use lib.ListN.{length, getD};
-ghost use Rattle.join.specs.Sizes.{masterRows};
+ghost use lib.ListN.{length};
+ghost use Rattle.join.specs.Sizes.{masterRows, blockRows};
 ghost use Rattle.verify.specs.Open.{late as lateOf, Ruled, Shut};
-ghost use Rattle.verify.specs.Blocks.{Encloses};
+ghost use Rattle.verify.specs.Blocks.{Encloses, Surveyed};
 
 // 0 where n is below o, else 1: added to a distance it settles ties, without a branch.
 fn late(n: u32, o: u32) -> u32
@@ -106,11 +106,12 @@ fn open_in(
     open_row(i, first, end, an, ax, ay, af, ah, bn, bx, by, bf, bh) != 0
 }
 
-// Some pair of A's listed places and B's places from first to end is.
-fn open_block(
+// Some pair of the places of A's block g and the block of B's places from first to end is.
+fn open_group(
+    g: usize,
+    block: Block,
     first: usize,
     end: usize,
-    rows: &[u16],
     an: &[u32],
     ax: &[i16],
     ay: &[i16],
@@ -122,25 +123,28 @@ fn open_block(
     bf: &[u32],
     bh: &[u32],
 ) -> bool
-    requires { ⌜ ((k : ℕ) → k < length (now rows) → getD (now rows) k 0 < length (now an)) ⌝ }
-    requires { ⌜ ((i : ℕ) → i < length (now an) → Ruled (now an) (now ax) (now ay) (now af) (now ah) i) × ((j : ℕ) → j < length (now bn) → Ruled (now bn) (now bx) (now by) (now bf) (now bh) j) × (first < end) × (end ≤ length (now bn)) × (length (now bn) ≤ masterRows) ⌝ }
-    ensures { λ r. ⌜ (r ≡ false → (k : ℕ) → k < length (now (rows .entry)) → (j : ℕ) → first ≤ j → j < end → Shut (now (an .entry)) (now (ax .entry)) (now (ay .entry)) (now (af .entry)) (now (ah .entry)) (now (bn .entry)) (now (bx .entry)) (now (by .entry)) (now (bf .entry)) (now (bh .entry)) (getD (now (rows .entry)) k 0) j) ⌝ }
+    requires { ⌜ ((i : ℕ) → i < length (now an) → Ruled (now an) (now ax) (now ay) (now af) (now ah) i) × ((j : ℕ) → j < length (now bn) → Ruled (now bn) (now bx) (now by) (now bf) (now bh) j) × (g * blockRows < length (now an)) × (length (now an) ≤ masterRows) × (end ≤ length (now bn)) × (length (now bn) ≤ masterRows) ⌝ }
+    requires { ⌜ Encloses (now bn) (now bx) (now by) (now bf) (now bh) first end block ⌝ }
+    ensures { λ r. ⌜ (r ≡ false → (i : ℕ) → i < length (now (an .entry)) → g * blockRows ≤ i → i < (g + 1) * blockRows → (j : ℕ) → first ≤ j → j < end → Shut (now (an .entry)) (now (ax .entry)) (now (ay .entry)) (now (af .entry)) (now (ah .entry)) (now (bn .entry)) (now (bx .entry)) (now (by .entry)) (now (bf .entry)) (now (bh .entry)) i j) ⌝ }
 {
-    let block = blocks::enclose(first, end, bn, bx, by, bf, bh);
-    let mut k = 0;
-    while k < rows.len() {
-        let i = place(rows, k);
+    let mut i = g * sizes::BLOCK;
+    let stop = blocks::end(i, an.len());
+    while i < stop {
         if open_in(i, block, first, end, an, ax, ay, af, ah, bn, bx, by, bf, bh) {
             return true;
         }
-        k += 1;
+        i += 1;
     }
     false
 }
 
-// Some pair of A's listed places is.
-pub fn any_open(
-    rows: &[u16],
+// The same, where s encloses A's places and t B's: two blocks that are apart are skipped.
+fn open_between(
+    g: usize,
+    s: Block,
+    t: Block,
+    first: usize,
+    end: usize,
     an: &[u32],
     ax: &[i16],
     ay: &[i16],
@@ -152,14 +156,69 @@ pub fn any_open(
     bf: &[u32],
     bh: &[u32],
 ) -> bool
-    requires { ⌜ ((k : ℕ) → k < length (now rows) → getD (now rows) k 0 < length (now an)) ⌝ }
-    requires { ⌜ ((i : ℕ) → i < length (now an) → Ruled (now an) (now ax) (now ay) (now af) (now ah) i) × ((j : ℕ) → j < length (now bn) → Ruled (now bn) (now bx) (now by) (now bf) (now bh) j) × (length (now bn) ≤ masterRows) ⌝ }
-    ensures { λ r. ⌜ (r ≡ false → (k j : ℕ) → k < length (now (rows .entry)) → j < length (now (bn .entry)) → Shut (now (an .entry)) (now (ax .entry)) (now (ay .entry)) (now (af .entry)) (now (ah .entry)) (now (bn .entry)) (now (bx .entry)) (now (by .entry)) (now (bf .entry)) (now (bh .entry)) (getD (now (rows .entry)) k 0) j) ⌝ }
+    requires { ⌜ ((i : ℕ) → i < length (now an) → Ruled (now an) (now ax) (now ay) (now af) (now ah) i) × ((j : ℕ) → j < length (now bn) → Ruled (now bn) (now bx) (now by) (now bf) (now bh) j) × (g * blockRows < length (now an)) × (length (now an) ≤ masterRows) × (end ≤ length (now bn)) × (length (now bn) ≤ masterRows) ⌝ }
+    requires { ⌜ Encloses (now an) (now ax) (now ay) (now af) (now ah) (g * blockRows) (min (g * blockRows + blockRows) (length (now an))) s × Encloses (now bn) (now bx) (now by) (now bf) (now bh) first end t ⌝ }
+    ensures { λ r. ⌜ (r ≡ false → (i : ℕ) → i < length (now (an .entry)) → g * blockRows ≤ i → i < (g + 1) * blockRows → (j : ℕ) → first ≤ j → j < end → Shut (now (an .entry)) (now (ax .entry)) (now (ay .entry)) (now (af .entry)) (now (ah .entry)) (now (bn .entry)) (now (bx .entry)) (now (by .entry)) (now (bf .entry)) (now (bh .entry)) i j) ⌝ }
 {
+    if blocks::apart(s, t) {
+        return false;
+    }
+    open_group(g, t, first, end, an, ax, ay, af, ah, bn, bx, by, bf, bh)
+}
+
+// Some pair of A's places, which the groups enclose, and B's places from first to end is.
+fn open_block(
+    groups: [Block; sizes::BLOCKS],
+    first: usize,
+    end: usize,
+    an: &[u32],
+    ax: &[i16],
+    ay: &[i16],
+    af: &[u32],
+    ah: &[u32],
+    bn: &[u32],
+    bx: &[i16],
+    by: &[i16],
+    bf: &[u32],
+    bh: &[u32],
+) -> bool
+    requires { ⌜ ((i : ℕ) → i < length (now an) → Ruled (now an) (now ax) (now ay) (now af) (now ah) i) × ((j : ℕ) → j < length (now bn) → Ruled (now bn) (now bx) (now by) (now bf) (now bh) j) × (length (now an) ≤ masterRows) × (first < end) × (end ≤ length (now bn)) × (length (now bn) ≤ masterRows) ⌝ }
+    requires { ⌜ Surveyed (now an) (now ax) (now ay) (now af) (now ah) groups ⌝ }
+    ensures { λ r. ⌜ (r ≡ false → (i : ℕ) → i < length (now (an .entry)) → (j : ℕ) → first ≤ j → j < end → Shut (now (an .entry)) (now (ax .entry)) (now (ay .entry)) (now (af .entry)) (now (ah .entry)) (now (bn .entry)) (now (bx .entry)) (now (by .entry)) (now (bf .entry)) (now (bh .entry)) i j) ⌝ }
+{
+    let t = blocks::enclose(first, end, bn, bx, by, bf, bh);
+    let mut g = 0;
+    while g * sizes::BLOCK < an.len() {
+        let s = groups[g];
+        if open_between(g, s, t, first, end, an, ax, ay, af, ah, bn, bx, by, bf, bh) {
+            return true;
+        }
+        g += 1;
+    }
+    false
+}
+
+// Some pair of A's places and B's is.
+pub fn any_open(
+    an: &[u32],
+    ax: &[i16],
+    ay: &[i16],
+    af: &[u32],
+    ah: &[u32],
+    bn: &[u32],
+    bx: &[i16],
+    by: &[i16],
+    bf: &[u32],
+    bh: &[u32],
+) -> bool
+    requires { ⌜ ((i : ℕ) → i < length (now an) → Ruled (now an) (now ax) (now ay) (now af) (now ah) i) × ((j : ℕ) → j < length (now bn) → Ruled (now bn) (now bx) (now by) (now bf) (now bh) j) × (length (now an) ≤ masterRows) × (length (now bn) ≤ masterRows) ⌝ }
+    ensures { λ r. ⌜ (r ≡ false → (i j : ℕ) → i < length (now (an .entry)) → j < length (now (bn .entry)) → Shut (now (an .entry)) (now (ax .entry)) (now (ay .entry)) (now (af .entry)) (now (ah .entry)) (now (bn .entry)) (now (bx .entry)) (now (by .entry)) (now (bf .entry)) (now (bh .entry)) i j) ⌝ }
+{
+    let groups = blocks::survey(an, ax, ay, af, ah);
     let mut first = 0;
     while first < bn.len() {
         let end = blocks::end(first, bn.len());
-        if open_block(first, end, rows, an, ax, ay, af, ah, bn, bx, by, bf, bh) {
+        if open_block(groups, first, end, an, ax, ay, af, ah, bn, bx, by, bf, bh) {
             return true;
         }
         first = end;

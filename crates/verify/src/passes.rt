@@ -12,7 +12,7 @@ ghost use lib.ListN.{length};
 ghost use Rattle.verify.specs.Open.{Shut};
 ghost use Rattle.verify.specs.Later.{Limited, Kept, StillShut};
 
-// Some pair of a place of A that has a later limit than before is open.
+// Some pair of a place of A that has a later limit than before is open. The other places get the limit that shuts all their pairs, so that blocks of them are skipped.
 fn pass(
     an: &[u32],
     ax: &[i16],
@@ -30,9 +30,10 @@ fn pass(
     requires { ⌜ Limited (now an) (now ax) (now ay) (now af) (now ah) × Limited (now an) (now ax) (now ay) (now nf) (now nh) × Limited (now bn) (now bx) (now by) (now mf) (now mh) ⌝ }
     ensures { λ r. ⌜ (r ≡ false → (i j : ℕ) → i < length (now (an .entry)) → j < length (now (bn .entry)) → Kept (now (af .entry)) (now (ah .entry)) (now (nf .entry)) (now (nh .entry)) i ⊎ Shut (now (an .entry)) (now (ax .entry)) (now (ay .entry)) (now (nf .entry)) (now (nh .entry)) (now (bn .entry)) (now (bx .entry)) (now (by .entry)) (now (mf .entry)) (now (mh .entry)) i j) ⌝ }
 {
-    let mut rows = [0u16; sizes::NODES];
-    let count = later::list(an.len(), af, ah, nf, nh, &mut rows);
-    open::any_open(&rows[..count], an, ax, ay, nf, nh, bn, bx, by, mf, mh)
+    let mut ef = [0u32; sizes::NODES];
+    let mut eh = [0u32; sizes::NODES];
+    later::only_later(an.len(), af, ah, nf, nh, &mut ef, &mut eh);
+    open::any_open(an, ax, ay, &ef, &eh, bn, bx, by, mf, mh)
 }
 
 // Some pair that was shut is open: A's places against B's blocks, and B's against A's where some of A's are not looked at.

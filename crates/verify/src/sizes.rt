@@ -7,3 +7,6 @@ pub const FREE: u32 = 4294967295;
 
 // The rows of a block.
 pub const BLOCK: usize = 32;
+
+// The most blocks of a master.
+pub const BLOCKS: usize = 16;

@@ -1,18 +1,16 @@
--- Places that have no later limit than before keep their pairs shut; the list of those that have. Assumes nothing.
+-- Places that have no later limit than before keep their pairs shut. Assumes nothing.
 use Prim.Native.Nat.{ℕ, _+_, _*_, _≤_, _<_}
-use mathlib.Core.Path.{_≡_, _∙_}
+use mathlib.Core.Path.{_≡_}
 use mathlib.Core.List.{List}
 use native.Mathlib.Decide.{decLt}
 use native.Mathlib.Omega.{arith}
-use borrow.Author.Count.{below-more}
 use borrow.Author.Tests.{lt-ltb, le-ltb}
 use mathlib.Core.Logic.{_⊎_, inl, inr}
 use lib.IntN.{ℤ}
-use lib.ListN.{length, getD, set, take}
-use lib.Seq.{getD-set-same, getD-set-other, getD-take, length-take-le}
+use lib.ListN.{length, getD}
 use Rattle.join.specs.Sizes.{masterRows, numberRange}
 use Rattle.verify.specs.Open.{late, Ruled, Shut}
-use Rattle.verify.specs.Later.{Limited, Known, Kept, Seen, kept, listed, Listed, Moved, later, none, StillShut}
+use Rattle.verify.specs.Later.{Limited, Known, Kept, Taken, kept, taken, OnlyLater, Moved, later, none, StillShut}
 use Rattle.verify.specs.Barred.{Barred, none-ahead, shut-swap}
 
 -- What is ahead of a limit is ahead of a later one.
@@ -46,45 +44,6 @@ limited-ruled ns xs ys far high l i h = record {
   in-h = omega (arith, l .most, l .room-h);
 }
 
-module _ (far high nf nh : List ℕ) where
-  pub listed-none : (places : List ℕ) → Listed far high nf nh 0 0 places
-  listed-none places = record { most = omega arith; below = λ k h. absurd (omega arith); seen = λ i h. absurd (omega arith) }
-
-  module _ (i count : ℕ) (places : List ℕ) (room : count < length places) (l : Listed far high nf nh i count places) where
-    -- Place i is written behind the list.
-    old : (k : ℕ) → k < count → getD (set places count i) k 0 ≡ getD places k 0
-    old k h = getD-set-other places count k i 0 (λ e. omega arith)
-
-    -- It is not one of the list: it has no later limit,
-    pub listed-kept : Kept far high nf nh i → Listed far high nf nh (i + 1) count (set places count i)
-    listed-kept h = record {
-      most = omega (arith, l .most);
-      below = λ k g. omega (arith, old k g, l .below k g);
-      seen = below-more (Seen far high nf nh count (set places count i)) i (λ j g. again j (l .seen j g)) (kept h);
-    }
-      where
-        again : (j : ℕ) → Seen far high nf nh count places j → Seen far high nf nh count (set places count i) j
-        again j (kept q) = kept q
-        again j (listed k g e) = listed k g (old k g ∙ e)
-
-    -- or it is.
-    pub listed-more : Listed far high nf nh (i + 1) (count + 1) (set places count i)
-    listed-more = record {
-      most = omega (arith, l .most);
-      below = below-more (λ k. getD (set places count i) k 0 < i + 1) count (λ k g. omega (arith, old k g, l .below k g)) (omega (arith, getD-set-same places count i 0 room));
-      seen = below-more (Seen far high nf nh (count + 1) (set places count i)) i (λ j g. again j (l .seen j g)) (listed count (omega arith) (getD-set-same places count i 0 room));
-    }
-      where
-        again : (j : ℕ) → Seen far high nf nh count places j → Seen far high nf nh (count + 1) (set places count i) j
-        again j (kept q) = kept q
-        again j (listed k g e) = listed k (omega arith) (old k g ∙ e)
-
--- The places of the list, cut off behind its end, are below n.
-pub listed-below : (far high nf nh : List ℕ) (n count : ℕ) (rows : List ℕ) → count ≤ length rows → Listed far high nf nh n count rows → (k : ℕ) → k < length (take count rows) → getD (take count rows) k 0 < n
-listed-below far high nf nh n count rows room l k h =
-    let m : k < count = omega (arith, length-take-le count rows room) in
-    rw (getD-take count rows k 0 m) (l .below k m)
-
 -- Each place has both limits.
 pub limited-known : (ns : List ℕ) (xs ys : List ℤ) (far high nf nh : List ℕ) → Limited ns xs ys far high → Limited ns xs ys nf nh → (i : ℕ) → i < length ns → Known far high nf nh i
 limited-known ns xs ys far high nf nh a b i h =
@@ -97,14 +56,13 @@ module _ (an : List ℕ) (ax ay : List ℤ) (af ah nf nh bn : List ℕ) (bx by :
   abbrev Passed : Type 0
   Passed = (i j : ℕ) → i < length an → j < length bn → Kept af ah nf nh i ⊎ Shut an ax ay nf nh bn bx by mf mh i j
 
-  -- So does one over those that are listed.
-  pub passed : (rows : List ℕ) (count : ℕ) → count ≤ length rows → Listed af ah nf nh (length an) count rows
-      → ((k j : ℕ) → k < length (take count rows) → j < length bn → Shut an ax ay nf nh bn bx by mf mh (getD (take count rows) k 0) j) → Passed
-  passed rows count room l shut i j h g = go (l .seen i h)
+  -- So does one with the limits of these alone.
+  pub passed : (ef eh : List ℕ) → OnlyLater af ah nf nh (length an) ef eh → ((i j : ℕ) → i < length an → j < length bn → Shut an ax ay ef eh bn bx by mf mh i j) → Passed
+  passed ef eh only shut i j h g = go (only .takes i h)
     where
-      go : Seen af ah nf nh count rows i → Kept af ah nf nh i ⊎ Shut an ax ay nf nh bn bx by mf mh i j
+      go : Taken af ah nf nh (getD ef i 0) (getD eh i 0) i → Kept af ah nf nh i ⊎ Shut an ax ay nf nh bn bx by mf mh i j
       go (kept k) = inl k
-      go (listed k m e) = inr (rw (getD-take count rows k 0 m ∙ e) at (shut k j (omega (arith, length-take-le count rows room)) g))
+      go (taken e f) = inr (rw (e, f) at (shut i j h g))
 
 module _ (an : List ℕ) (ax ay : List ℤ) (af ah nf nh bn : List ℕ) (bx by : List ℤ) (bf bh mf mh : List ℕ) where
   -- One pass is enough where each place of A has a later limit, or shuts all its pairs.

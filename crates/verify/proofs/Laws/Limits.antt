@@ -15,17 +15,23 @@ use Rattle.matching.specs.Definitions.Columns.{Distinct}
 use Rattle.join.specs.Sizes.{numberRange}
 use Rattle.verify.specs.Limits.{takenOf, keyAt, SpentRow, limitOf, Noted, Spent, Limit, unlimited, limited, Sided}
 
--- A store at place k, after places below k.
-pub stored-below : (P : ℕ → ℕ → Type 0) (xs : List ℕ) (k v : ℕ) → k < length xs → ((j : ℕ) → j < k → P j (getD xs j 0)) → P k v
-    → (j : ℕ) → j < k + 1 → P j (getD (set xs k v) j 0)
-stored-below P xs k v l h p =
-    below-more (λ j. P j (getD (set xs k v) j 0)) k (λ j b. rw (getD-set-other xs k j v 0 (λ e. omega arith)) (h j b)) (rw (getD-set-same xs k v 0 l) p)
+-- A store at place k, after places below k,
+pub stored-below : {X : Type 0} (z : X) (P : ℕ → X → Type 0) (xs : List X) (k : ℕ) (v : X) → k < length xs → ((j : ℕ) → j < k → P j (getD xs j z)) → P k v
+    → (j : ℕ) → j < k + 1 → P j (getD (set xs k v) j z)
+stored-below z P xs k v l h p =
+    below-more (λ j. P j (getD (set xs k v) j z)) k (λ j b. rw (getD-set-other xs k j v z (λ e. omega arith)) (h j b)) (rw (getD-set-same xs k v z l) p)
+
+-- and one in each of two columns.
+pub stored-both : (P : ℕ → ℕ → ℕ → Type 0) (xs ys : List ℕ) (k v w : ℕ) → k < length xs → k < length ys → ((j : ℕ) → j < k → P j (getD xs j 0) (getD ys j 0)) → P k v w
+    → (j : ℕ) → j < k + 1 → P j (getD (set xs k v) j 0) (getD (set ys k w) j 0)
+stored-both P xs ys k v w l m h p =
+    stored-below 0 (λ j a. P j a (getD (set ys k w) j 0)) xs k v l (λ j b. rw (getD-set-other ys k j w 0 (λ e. omega arith)) (h j b)) (rw (getD-set-same ys k w 0 m) p)
 
 -- A place noted, after places below it.
 pub noted-more : (left before far : List ℕ) (k v : ℕ) → k < length far → Noted left before far k → ((j : ℕ) → k ≤ j → getD far j 0 ≡ getD before j 0) → v ≡ limitOf (getD left k 0) (getD far k 0)
     → Noted left before (set far k v) (k + 1) × ((j : ℕ) → k + 1 ≤ j → getD (set far k v) j 0 ≡ getD before j 0)
 noted-more left before far k v l h g e = (
-  stored-below (λ j w. w ≡ limitOf (getD left j 0) (getD before j 0)) far k v l h (e ∙ ap (limitOf (getD left k 0)) (g k (omega arith))),
+  stored-below 0 (λ j w. w ≡ limitOf (getD left j 0) (getD before j 0)) far k v l h (e ∙ ap (limitOf (getD left k 0)) (g k (omega arith))),
   λ j b. getD-set-other far k j v 0 (λ z. omega arith) ∙ g j (omega arith),
 )
 

@@ -40,7 +40,7 @@ loop-less c = search needs
 loop-again : tie.Need-loop-again Inv-loop μ-loop
 loop-again c =
     let l = c .before .before .loop in
-    (omega arith, simp length-set (l .inv .1), stored-below (λ j w. w ≡ getD (c .before .before .before .args .from .now) j 0) (l .to) (l .i) _ (omega arith) (l .inv .2) refl)
+    (omega arith, simp length-set (l .inv .1), stored-below 0 (λ j w. w ≡ getD (c .before .before .before .args .from .now) j 0) (l .to) (l .i) _ (omega arith) (l .inv .2) refl)
 
 same-length : tie.Need-same-length Inv-loop μ-loop
 same-length c = search needs

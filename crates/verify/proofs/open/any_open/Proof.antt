@@ -1,8 +1,8 @@
--- `open::any_open` meets its contract: the pairs of the listed places and B's places before first are shut. Assumes nothing.
+-- `open::any_open` meets its contract: the pairs of A's places and B's places before first are shut. Assumes nothing.
 use Rattle.verify.proofs.Laws.Blocks.{block-more}
 use Rattle.verify.specs.Open.{Shut}
 use borrow.Author.Count.{below-none}
-use lib.ListN.{length, getD}
+use lib.ListN.{length}
 use native.Mathlib.Omega.{arith}
 use mathlib.Core.Bool.{false≢true}
 use mathlib.Core.Path.{sym}
@@ -11,10 +11,13 @@ use Rattle.verify.proofs.open.any_open.Statement.{statement}
 use Rattle.verify.proofs.open.any_open.Tie as tie
 
 abbrev Inv-loop : tie.InvT-loop
-Inv-loop rows an ax ay af ah bn bx by bf bh first₀ first = (k : ℕ) → k < length rows → (j : ℕ) → j < first → Shut an ax ay af ah bn bx by bf bh (getD rows k 0) j
+Inv-loop an ax ay af ah bn bx by bf bh groups first₀ first = (i : ℕ) → i < length an → (j : ℕ) → j < first → Shut an ax ay af ah bn bx by bf bh i j
 
 abbrev μ-loop : tie.MeasureT-loop
-μ-loop rows an ax ay af ah bn bx by bf bh first₀ first = length bn - first
+μ-loop an ax ay af ah bn bx by bf bh groups first₀ first = length bn - first
+
+survey-requires : tie.Need-survey-requires Inv-loop μ-loop
+survey-requires c κs = let p = c .before .before .before .before .before .before .pre in (p .2, p .0)
 
 loop-holds : tie.Need-loop-holds Inv-loop μ-loop
 loop-holds c = λ i h. below-none _
@@ -23,7 +26,7 @@ end-requires : tie.Need-end-requires Inv-loop μ-loop
 end-requires c κs = c .loop-test .taken
 
 open-block-requires : tie.Need-open-block-requires Inv-loop μ-loop
-open-block-requires c κs = let p = c .before .before .before .before .before .before .before .before .before .before .pre in (p .0, (p .1 .0, p .1 .1, c .end .ensures .0, c .end .ensures .1, p .1 .2))
+open-block-requires c κs = let p = c .before .before .before .before .before .before .before .before .before .before .pre in ((p .0, p .1, p .2, c .end .ensures .0, c .end .ensures .1, p .3), c .before .before .before .survey .ensures)
 
 returns : tie.Need-returns Inv-loop μ-loop
 returns c = λ h. absurd (false≢true (sym h))
@@ -43,6 +46,7 @@ any-open-spec =
     (tie.spec
     Inv-loop
     μ-loop
+    survey-requires
     loop-holds
     end-requires
     open-block-requires

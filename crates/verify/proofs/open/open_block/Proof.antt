@@ -1,48 +1,56 @@
--- `open::open_block` meets its contract: the pairs of the first k listed places are shut. Assumes nothing.
+-- `open::open_block` meets its contract: the pairs of the places in the blocks before g are shut. Assumes nothing.
+use Rattle.verify.proofs.Laws.Blocks.{block-more}
 use Rattle.verify.specs.Open.{Shut}
-use borrow.Author.Count.{below-none, below-more}
-use lib.ListN.{length, getD}
+use Rattle.join.specs.Sizes.{blockRows, masterBlocks}
+use lib.ListN.{length}
 use native.Mathlib.Omega.{arith}
 use mathlib.Core.Bool.{false≢true}
 use mathlib.Core.Path.{sym}
-use Prim.Native.Nat.{ℕ, _-_, _≤_, _<_}
+use Prim.Native.Nat.{ℕ, _*_, _-_, _≤_, _<_}
 use Rattle.verify.proofs.open.open_block.Statement.{statement}
 use Rattle.verify.proofs.open.open_block.Tie as tie
 
 abbrev Inv-loop : tie.InvT-loop
-Inv-loop first end rows an ax ay af ah bn bx by bf bh block k₀ k = (h : ℕ) → h < k → (j : ℕ) → first ≤ j → j < end → Shut an ax ay af ah bn bx by bf bh (getD rows h 0) j
+Inv-loop first end an ax ay af ah bn bx by bf bh groups t g₀ g = (g ≤ masterBlocks) × ((i : ℕ) → i < g * blockRows → i < length an → (j : ℕ) → first ≤ j → j < end → Shut an ax ay af ah bn bx by bf bh i j)
 
 abbrev μ-loop : tie.MeasureT-loop
-μ-loop first end rows an ax ay af ah bn bx by bf bh block k₀ k = length rows - k
+μ-loop first end an ax ay af ah bn bx by bf bh groups t g₀ g = length an - g
 
 enclose-requires : tie.Need-enclose-requires Inv-loop μ-loop
-enclose-requires c κs = let p = c .before .before .before .before .before .before .before .pre .1 in (p .2, p .3, p .1)
+enclose-requires c κs = let p = c .before .before .before .before .before .before .pre .0 in (p .3, p .4, p .1)
 
 loop-holds : tie.Need-loop-holds Inv-loop μ-loop
-loop-holds c = below-none _
+loop-holds c = (omega arith, λ i h. absurd (omega arith))
 
-place-requires : tie.Need-place-requires Inv-loop μ-loop
-place-requires c κs = c .loop-test .taken
+mul-loop : tie.Need-mul-loop Inv-loop μ-loop
+mul-loop c = omega arith
 
-open-in-requires : tie.Need-open-in-requires Inv-loop μ-loop
-open-in-requires c κs =
-    let p = c .before .before .before .before .before .before .before .before .before .before .before .pre in
-    ((rw (c .place .ensures) (p .1 .0 _ (p .0 (c .before .before .loop .k) (c .before .loop-test .taken))), p .1 .1, p .1 .3, p .1 .4), c .before .before .before .enclose .ensures)
+mul-s : tie.Need-mul-s Inv-loop μ-loop
+mul-s c = omega arith
+
+array-copy-out-s : tie.Need-array-copy-out-s Inv-loop μ-loop
+array-copy-out-s c = omega arith
+
+open-between-requires : tie.Need-open-between-requires Inv-loop μ-loop
+open-between-requires c κs =
+    let p = c .before .before .before .before .before .before .before .before .before .before .pre in
+    let t = c .before .loop-test .taken in
+    ((p .0 .0, p .0 .1, t, p .0 .2, p .0 .4, p .0 .5), (p .1 (c .before .before .loop .g) t, c .before .before .before .enclose .ensures))
 
 returns : tie.Need-returns Inv-loop μ-loop
 returns c = λ h. absurd (false≢true (sym h))
 
-add-k : tie.Need-add-k Inv-loop μ-loop
-add-k c = omega (arith, c .before .before .before .before .before .before .before .before .before .before .before .before .before .good)
+add-g : tie.Need-add-g Inv-loop μ-loop
+add-g c = omega arith
 
 loop-less : tie.Need-loop-less Inv-loop μ-loop
 loop-less c = omega arith
 
 loop-again : tie.Need-loop-again Inv-loop μ-loop
-loop-again c = below-more _ _ (c .before .before .before .before .loop .inv) (rw (c .before .before .place .ensures) at (c .before .open-in .ensures (c .if1 .left)))
+loop-again c = (omega (arith, c .before .before .before .before .before .before .before .before .before .before .before .before .pre .0 .2), block-more _ _ _ (c .before .before .before .before .loop .inv .1) (λ i a h l. c .before .open-between .ensures (c .if1 .left) i l a h))
 
 returns-2 : tie.Need-returns-2 Inv-loop μ-loop
-returns-2 c = λ w k h. c .before .loop .inv k (omega arith)
+returns-2 c = λ w i h. c .before .loop .inv .1 i (omega arith) h
 
 pub open-block-spec : {M : Type 1} → statement M
 open-block-spec =
@@ -52,10 +60,12 @@ open-block-spec =
     μ-loop
     enclose-requires
     loop-holds
-    place-requires
-    open-in-requires
+    mul-loop
+    mul-s
+    array-copy-out-s
+    open-between-requires
     returns
-    add-k
+    add-g
     loop-less
     loop-again
     returns-2)
