@@ -10,11 +10,12 @@ use native.Mathlib.Omega.{arith}
 use lib.Dec.{leb→le, le→leb}
 use lib.IntN.{ℤ, pos, negsuc, _-ℤ_, natAbs}
 use lib.ListN.{getD}
-use lib.Signed.{ltZ, leZ, _≤ℤ_, ≤ℤ-refl}
+use lib.Signed.{ltZ, _≤ℤ_, ≤ℤ-refl}
 use mir.Syntax.{w16}
 use mir.Val.{toZ, ofZ, SFits}
 use mir.Facts.{toZ-ofZ}
 use borrow.Author.Tests.{lt-ltb, le-ltb, ltb-true, ltb-false}
+use Rattle.matching.specs.Definitions.Columns.{edge}
 use Rattle.bounds.specs.Boxes.{Within, Farther, Extreme, Between, Clamped}
 
 -- A position on a scale whose zero is at n.
@@ -29,10 +30,10 @@ le-place n (negsuc a) (pos b) h = omega arith
 le-place n (negsuc a) (negsuc b) h = omega (arith, leb→le b a (h .le))
 
 -- A position inside is read back from its 16 bits.
-pub back : (z : ℤ) → natAbs z ≤ 24576 → toZ w16 (ofZ w16 z) ≡ z
+pub back : (z : ℤ) → natAbs z ≤ edge → toZ w16 (ofZ w16 z) ≡ z
 back z h = toZ-ofZ (fits z h)
   where
-    fits : (z : ℤ) → natAbs z ≤ 24576 → SFits w16 z
+    fits : (z : ℤ) → natAbs z ≤ edge → SFits w16 z
     fits (pos n) h = record { sfits = omega arith }
     fits (negsuc n) h = record { sfits = omega arith }
 

@@ -5,7 +5,7 @@ use native.Mathlib.Omega.{arith}
 use borrow.Author.Needs.{needs}
 use mir.Facts.{toZ-ofZ}
 use Rattle.matching.specs.Definitions.Pairs.{squaredDistance}
-use Rattle.matching.specs.Definitions.Columns.{Inside, Reach}
+use Rattle.matching.specs.Definitions.Columns.{edge, Inside, Reach}
 use Rattle.matching.specs.Laws.Distance.{inside-reach, distance-fits}
 use Rattle.bounds.specs.Boxes.{Clamped}
 use Rattle.bounds.proofs.Laws.Places.{back, between-near}
@@ -26,7 +26,7 @@ up : (c : tie.After-clamp2) → let s = c .before .before .args in Clamped (s .y
 up c = let f = c .before .before .fits in rw (toZ-ofZ (f .y), toZ-ofZ (f .low), toZ-ofZ (f .high)) at (c .clamp2 .ensures)
 
 held : (c : tie.After-clamp2) → Inside (c .before .clamp .result) (c .clamp2 .result)
-held c = let p = c .before .before .pre in (across c .small 24576 (p .0 .0) (p .1 .0) (p .2 .0), up c .small 16384 (p .0 .1) (p .1 .1) (p .2 .1))
+held c = let p = c .before .before .pre in (across c .small edge (p .0 .0) (p .1 .0) (p .2 .0), up c .small edge (p .0 .1) (p .1 .1) (p .2 .1))
 
 reach : (c : tie.After-clamp2) → let s = c .before .before .args in Reach (s .x) (s .y) (c .before .clamp .result) (c .clamp2 .result)
 reach c = let s = c .before .before .args in inside-reach (s .x) (s .y) (c .before .clamp .result) (c .clamp2 .result) (c .before .before .pre .0) (held c)

@@ -3,7 +3,7 @@ use native.Mathlib.Nat.{mul-le-mul}
 use native.Mathlib.Omega.{arith}
 use borrow.Author.Needs.{needs}
 use mir.Facts.{toZ-ofZ}
-use Rattle.matching.specs.Definitions.Columns.{Inside}
+use Rattle.matching.specs.Definitions.Columns.{edge, Inside}
 use Rattle.bounds.specs.Boxes.{Clamped, Clear}
 use Rattle.bounds.proofs.Laws.Places.{back, clamp-near}
 use Rattle.bounds.proofs.gap.Statement.{statement}
@@ -23,7 +23,7 @@ up : (c : tie.After-clamp2) → let s = c .before .before .args in Clamped (s .l
 up c = let f = c .before .before .fits in rw (toZ-ofZ (f .low), toZ-ofZ (f .b), toZ-ofZ (f .t)) at (c .clamp2 .ensures)
 
 held : (c : tie.After-clamp2) → Inside (c .before .clamp .result) (c .clamp2 .result)
-held c = let p = c .before .before .pre in (across c .small 24576 (p .2 .0) (p .0 .0) (p .1 .0), up c .small 16384 (p .2 .1) (p .0 .1) (p .1 .1))
+held c = let p = c .before .before .pre in (across c .small edge (p .2 .0) (p .0 .0) (p .1 .0), up c .small edge (p .2 .1) (p .0 .1) (p .1 .1))
 
 clearance-requires : tie.Need-clearance-requires
 clearance-requires c κs =

@@ -32,10 +32,17 @@ unfoldable pub linksOf : List ℕ → List ℕ → List ℕ → List ℕ → ℕ
 unfolding tabulate
 linksOf la lb ld lm n = tabulate (linkAt la lb ld lm) 0 n
 
--- Where code works: a position within 24,576 across and 16,384 up.
-abbrev pub Inside : ℤ → ℤ → Type 0
-Inside x y = (natAbs x ≤ 24576) × (natAbs y ≤ 16384)
+-- Where code works: no position is farther than this from the middle, across or up,
+abbrev pub edge : ℕ
+edge = 16384
 
--- The differences of two such positions: their squared distance fits four bytes.
+abbrev pub Inside : ℤ → ℤ → Type 0
+Inside x y = (natAbs x ≤ edge) × (natAbs y ≤ edge)
+
+-- so that two differ by no more than this,
+abbrev pub reach : ℕ
+reach = 32768
+
+-- and their squared distance fits four bytes.
 abbrev pub Reach : ℤ → ℤ → ℤ → ℤ → Type 0
-Reach x y u v = (natAbs (x -ℤ u) ≤ 49152) × (natAbs (y -ℤ v) ≤ 32768)
+Reach x y u v = (natAbs (x -ℤ u) ≤ reach) × (natAbs (y -ℤ v) ≤ reach)
