@@ -111,15 +111,19 @@ impl Lanes {
         let [limit, other] = halves(limit);
         let mut open = 0;
         for lane in 0..BLOCK {
-            let across = u32::from(x.abs_diff(self.xs[lane]));
-            let up = u32::from(y.abs_diff(self.ys[lane]));
-            let distance = across * across + up * up;
+            let distance = squared(x, self.xs[lane]) + squared(y, self.ys[lane]);
             let by_a = distance + late(self.numbers[lane], other) <= limit;
             let by_b = distance + late(number, self.others[lane]) <= self.limits[lane];
             open += u32::from(by_a & by_b);
         }
         open != 0
     }
+}
+
+/// The square of the difference of two positions. Of all differences 32,768 alone wraps, to its negative, whose square
+/// is the same.
+fn squared(p: i16, q: i16) -> u32 {
+    i32::from(p.wrapping_sub(q)).pow(2) as u32
 }
 
 /// The distance and the number of a key.
