@@ -19,17 +19,23 @@ pub record Ahead (above : Bool) (p q : ℤ) (r : Bool) : Type 0 where
   pub yes : r ≡ true → Within above p q
   pub no : r ≡ false → Within above q p
 
--- Row r is i or k, and neither is farther.
-pub record Farther (above : Bool) (xs : List ℤ) (i k r : ℕ) : Type 0 where
-  pub one : (r ≡ i) ⊎ (r ≡ k)
-  pub as-i : Within above (getD xs r (pos 0)) (getD xs i (pos 0))
-  pub as-k : Within above (getD xs r (pos 0)) (getD xs k (pos 0))
+-- r is p or q, and neither is farther.
+pub record Farther (above : Bool) (p q r : ℤ) : Type 0 where
+  pub one : (r ≡ p) ⊎ (r ≡ q)
+  pub as-p : Within above r p
+  pub as-q : Within above r q
 
--- Of the rows from first to end none is farther than row r.
-pub record Extreme (above : Bool) (xs : List ℤ) (first end r : ℕ) : Type 0 where
-  pub from : first ≤ r
-  pub to : r < end
-  pub most : (k : ℕ) → first ≤ k → k < end → Within above (getD xs r (pos 0)) (getD xs k (pos 0))
+-- r is the position of one of the rows from first to end.
+pub record Among (xs : List ℤ) (first end : ℕ) (r : ℤ) : Type 0 where
+  pub at : ℕ
+  pub from : first ≤ at
+  pub to : at < end
+  pub is : r ≡ getD xs at (pos 0)
+
+-- It is, and none of theirs is farther.
+pub record Extreme (above : Bool) (xs : List ℤ) (first end : ℕ) (r : ℤ) : Type 0 where
+  pub among : Among xs first end r
+  pub most : (k : ℕ) → first ≤ k → k < end → Within above r (getD xs k (pos 0))
 
 -- q stands between p and u, or at one of them.
 abbrev pub Between : ℤ → ℤ → ℤ → Type 0

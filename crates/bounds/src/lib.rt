@@ -14,29 +14,28 @@ fn ahead(above: bool, p: i16, q: i16) -> bool
     p < q
 }
 
-// Of two rows the one whose position is ahead.
-fn farther(above: bool, xs: &[i16], i: usize, k: usize) -> usize
-    requires { ⌜ (i < length (now xs)) × (k < length (now xs)) ⌝ }
-    ensures { λ r. ⌜ Farther above (now (xs .entry)) i k r ⌝ }
+// Of two positions the one that is ahead.
+fn farther(above: bool, p: i16, q: i16) -> i16
+    ensures { λ r. ⌜ Farther above p q r ⌝ }
 {
-    if ahead(above, xs[k], xs[i]) {
-        return k;
+    if ahead(above, q, p) {
+        return q;
     }
-    i
+    p
 }
 
-// Of the rows from first to end the one whose position is the greatest, or the least.
-pub fn extreme(above: bool, xs: &[i16], first: usize, end: usize) -> usize
+// Of the positions of the rows from first to end the greatest, or the least.
+pub fn extreme(above: bool, xs: &[i16], first: usize, end: usize) -> i16
     requires { ⌜ (first < end) × (end ≤ length (now xs)) ⌝ }
     ensures { λ r. ⌜ Extreme above (now (xs .entry)) first end r ⌝ }
 {
-    let mut at = first;
-    let mut k = first + 1;
+    let mut p = xs[first];
+    let mut k = first;
     while k < end {
-        at = farther(above, xs, at, k);
+        p = farther(above, p, xs[k]);
         k += 1;
     }
-    at
+    p
 }
 
 // The position nearest to p from low to high.

@@ -99,14 +99,10 @@ fn frame(
     requires { ⌜ Columns (now ns) (now xs) (now ys) × (first < end) × (end ≤ length (now ns)) × Wide (boxes (now west) (now east) (now south) (now north) (now least)) × (b < tableBlocks) ⌝ }
     ensures { λ _. ⌜ Framed (now (ns .entry)) (now (xs .entry)) (now (ys .entry)) b first end (boxes (now (west .entry)) (now (east .entry)) (now (south .entry)) (now (north .entry)) (now (least .entry))) (boxes (now (west .exit)) (now (east .exit)) (now (south .exit)) (now (north .exit)) (now (least .exit))) ⌝ }
 {
-    let w = bounds::extreme(false, xs, first, end);
-    let e = bounds::extreme(true, xs, first, end);
-    let s = bounds::extreme(false, ys, first, end);
-    let n = bounds::extreme(true, ys, first, end);
-    west[b] = xs[w];
-    east[b] = xs[e];
-    south[b] = ys[s];
-    north[b] = ys[n];
+    west[b] = bounds::extreme(false, xs, first, end);
+    east[b] = bounds::extreme(true, xs, first, end);
+    south[b] = bounds::extreme(false, ys, first, end);
+    north[b] = bounds::extreme(true, ys, first, end);
     least[b] = lowest(ns, first, end);
 }
 

@@ -85,15 +85,11 @@ pub fn enclose(
     requires { ⌜ (first < end) × (end ≤ length (now ns)) × ((k : ℕ) → k < length (now ns) → Ruled (now ns) (now xs) (now ys) (now far) (now high) k) ⌝ }
     ensures { λ r. ⌜ Encloses (now (ns .entry)) (now (xs .entry)) (now (ys .entry)) (now (far .entry)) (now (high .entry)) first end r ⌝ }
 {
-    let l = bounds::extreme(false, xs, first, end);
-    let r = bounds::extreme(true, xs, first, end);
-    let b = bounds::extreme(false, ys, first, end);
-    let t = bounds::extreme(true, ys, first, end);
     Block {
-        left: xs[l],
-        right: xs[r],
-        bottom: ys[b],
-        top: ys[t],
+        left: bounds::extreme(false, xs, first, end),
+        right: bounds::extreme(true, xs, first, end),
+        bottom: bounds::extreme(false, ys, first, end),
+        top: bounds::extreme(true, ys, first, end),
         least: least(ns, first, end),
         limit: limit(far, high, first, end),
     }

@@ -16,7 +16,7 @@ use mir.Val.{toZ, ofZ, SFits}
 use mir.Facts.{toZ-ofZ}
 use borrow.Author.Tests.{lt-ltb, le-ltb, ltb-true, ltb-false}
 use Rattle.matching.specs.Definitions.Columns.{edge}
-use Rattle.bounds.specs.Boxes.{Within, Farther, Extreme, Between, Clamped}
+use Rattle.bounds.specs.Boxes.{Within, Farther, Among, Between, Clamped}
 
 -- A position on a scale whose zero is at n.
 abbrev place : ℕ → ℤ → ℕ
@@ -157,21 +157,25 @@ clamp-near low l r c high x u k a b d e = go (k .between x a b) (either u c)
     go (inl h) (inr m) = record { at = c; from = h .0; to = le-then c u high m e; away = omega (arith, abs-place (natAbs c) c c (omega arith) (omega arith)) }
 
 -- The farthest of some rows, and of one more.
-module _ (above : Bool) (xs : List ℤ) (first : ℕ) where
-  pub extreme-start : Extreme above xs first (first + 1) first
-  extreme-start = record { from = omega arith; to = omega arith; most = λ k a b. let e : k ≡ first = omega arith in rw e (within-refl above (getD xs first (pos 0))) }
+module _ (xs : List ℤ) (first end : ℕ) where
+  pub among-start : first < end → Among xs first end (getD xs first (pos 0))
+  among-start h = record { at = first; from = omega arith; to = h; is = refl }
 
-  pub extreme-on : (k i r : ℕ) → Extreme above xs first k i → Farther above xs i k r → Extreme above xs first (k + 1) r
-  extreme-on k i r x f = record { from = from (f .one); to = to (f .one); most = λ q a b. most q a b (ℕ-discrete q k) }
-    where
-      from : (r ≡ i) ⊎ (r ≡ k) → first ≤ r
-      from (inl e) = omega (arith, x .from)
-      from (inr e) = omega (arith, x .from, x .to)
+  -- What bounds all of them bounds the farthest.
+  pub among-small : (n : ℕ) → ((k : ℕ) → k < end → natAbs (getD xs k (pos 0)) ≤ n) → (r : ℤ) → Among xs first end r → natAbs r ≤ n
+  among-small n all r a = rw (a .is) (all (a .at) (a .to))
 
-      to : (r ≡ i) ⊎ (r ≡ k) → r < k + 1
-      to (inl e) = omega (arith, x .to)
-      to (inr e) = omega arith
+  module _ (above : Bool) (k : ℕ) (p r : ℤ) (f : Farther above p (getD xs k (pos 0)) r) where
+    pub among-on : first ≤ k → k < end → Among xs first end p → Among xs first end r
+    among-on l h a = go (f .one)
+      where
+        go : (r ≡ p) ⊎ (r ≡ getD xs k (pos 0)) → Among xs first end r
+        go (inl e) = rw e a
+        go (inr e) = record { at = k; from = l; to = h; is = e }
 
-      most : (q : ℕ) → first ≤ q → q < k + 1 → Dec (q ≡ k) → Within above (getD xs r (pos 0)) (getD xs q (pos 0))
-      most q a b (yes e) = rw e (f .as-k)
-      most q a b (no e) = within-then above (getD xs r (pos 0)) (getD xs i (pos 0)) (getD xs q (pos 0)) (f .as-i) (x .most q a (omega arith))
+    pub most-on : ((q : ℕ) → first ≤ q → q < k → Within above p (getD xs q (pos 0))) → (q : ℕ) → first ≤ q → q < k + 1 → Within above r (getD xs q (pos 0))
+    most-on m q a b = go (ℕ-discrete q k)
+      where
+        go : Dec (q ≡ k) → Within above r (getD xs q (pos 0))
+        go (yes e) = rw e (f .as-q)
+        go (no e) = within-then above r p (getD xs q (pos 0)) (f .as-p) (m q a (omega arith))

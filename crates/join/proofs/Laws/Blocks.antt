@@ -5,11 +5,13 @@ use mathlib.Core.Bool.{true, false}
 use mathlib.Core.List.{List}
 use native.Mathlib.Decide.{ℕ-discrete, decLt}
 use native.Mathlib.Omega.{arith}
-use lib.IntN.{ℤ, pos}
+use lib.IntN.{ℤ, pos, natAbs}
 use lib.ListN.{length, getD, set, length-set}
 use lib.Seq.{getD-set-same, getD-set-other}
 use Rattle.matching.specs.Definitions.Nodes.{Master, masterA, masterB}
-use Rattle.bounds.specs.Boxes.{Extreme}
+use Rattle.matching.specs.Definitions.Columns.{edge}
+use Rattle.bounds.specs.Boxes.{Among, Extreme}
+use Rattle.bounds.proofs.Laws.Places.{among-small}
 use Rattle.join.specs.Sizes.{blockRows, masterBlocks, tableBlocks}
 use Rattle.join.specs.Rows.{Columns, Rows, size, from, to, On, Sound}
 use Rattle.join.specs.Live.{Lists, Sized, rowAt, spotOf, Same, Live, Gathered, Refreshed}
@@ -60,13 +62,13 @@ same-box-trans B D F b p q = record { west = q .west ∙ p .west; east = q .east
 
 module _ (ns : List ℕ) (xs ys : List ℤ) where
   -- A box has for its edges the positions of the rows that are farthest out.
-  pub framed : (B : Boxes) (b first end w e s n m : ℕ) → Columns ns xs ys → end ≤ length ns → Wide B → b < tableBlocks
+  pub framed : (B : Boxes) (b first end : ℕ) (w e s n : ℤ) (m : ℕ) → Columns ns xs ys → end ≤ length ns → Wide B → b < tableBlocks
       → Extreme false xs first end w → Extreme true xs first end e → Extreme false ys first end s → Extreme true ys first end n → Least ns first end m
-      → Framed ns xs ys b first end B (boxes (set (B .west) b (getD xs w (pos 0))) (set (B .east) b (getD xs e (pos 0))) (set (B .south) b (getD ys s (pos 0))) (set (B .north) b (getD ys n (pos 0))) (set (B .least) b m))
+      → Framed ns xs ys b first end B (boxes (set (B .west) b w) (set (B .east) b e) (set (B .south) b s) (set (B .north) b n) (set (B .least) b m))
   framed B b first end w e s n m c room wide low hw he hs hn hm = record {
     here = record {
-      low = rw (west, south) (c .inside w (omega (arith, hw .to)) .0, c .inside s (omega (arith, hs .to)) .1);
-      high = rw (east, north) (c .inside e (omega (arith, he .to)) .0, c .inside n (omega (arith, hn .to)) .1);
+      low = rw (west, south) (across w (hw .among), up s (hs .among));
+      high = rw (east, north) (across e (he .among), up n (hn .among));
       within = λ k f g. record {
         west = rw west (hw .most k f g);
         east = rw east (he .most k f g);
@@ -77,25 +79,31 @@ module _ (ns : List ℕ) (xs ys : List ℤ) where
       };
     };
     aside = λ q d. record {
-      west = getD-set-other (B .west) b q (getD xs w (pos 0)) (pos 0) d;
-      east = getD-set-other (B .east) b q (getD xs e (pos 0)) (pos 0) d;
-      south = getD-set-other (B .south) b q (getD ys s (pos 0)) (pos 0) d;
-      north = getD-set-other (B .north) b q (getD ys n (pos 0)) (pos 0) d;
+      west = getD-set-other (B .west) b q w (pos 0) d;
+      east = getD-set-other (B .east) b q e (pos 0) d;
+      south = getD-set-other (B .south) b q s (pos 0) d;
+      north = getD-set-other (B .north) b q n (pos 0) d;
       least = getD-set-other (B .least) b q m 0 d;
     };
   }
     where
-      west : getD (set (B .west) b (getD xs w (pos 0))) b (pos 0) ≡ getD xs w (pos 0)
-      west = getD-set-same (B .west) b (getD xs w (pos 0)) (pos 0) (omega (arith, wide .in-west))
+      across : (z : ℤ) → Among xs first end z → natAbs z ≤ edge
+      across = among-small xs first end edge (λ k h. c .inside k (omega arith) .0)
 
-      east : getD (set (B .east) b (getD xs e (pos 0))) b (pos 0) ≡ getD xs e (pos 0)
-      east = getD-set-same (B .east) b (getD xs e (pos 0)) (pos 0) (omega (arith, wide .in-east))
+      up : (z : ℤ) → Among ys first end z → natAbs z ≤ edge
+      up = among-small ys first end edge (λ k h. c .inside k (omega arith) .1)
 
-      south : getD (set (B .south) b (getD ys s (pos 0))) b (pos 0) ≡ getD ys s (pos 0)
-      south = getD-set-same (B .south) b (getD ys s (pos 0)) (pos 0) (omega (arith, wide .in-south))
+      west : getD (set (B .west) b w) b (pos 0) ≡ w
+      west = getD-set-same (B .west) b w (pos 0) (omega (arith, wide .in-west))
 
-      north : getD (set (B .north) b (getD ys n (pos 0))) b (pos 0) ≡ getD ys n (pos 0)
-      north = getD-set-same (B .north) b (getD ys n (pos 0)) (pos 0) (omega (arith, wide .in-north))
+      east : getD (set (B .east) b e) b (pos 0) ≡ e
+      east = getD-set-same (B .east) b e (pos 0) (omega (arith, wide .in-east))
+
+      south : getD (set (B .south) b s) b (pos 0) ≡ s
+      south = getD-set-same (B .south) b s (pos 0) (omega (arith, wide .in-south))
+
+      north : getD (set (B .north) b n) b (pos 0) ≡ n
+      north = getD-set-same (B .north) b n (pos 0) (omega (arith, wide .in-north))
 
       least : getD (set (B .least) b m) b 0 ≡ m
       least = getD-set-same (B .least) b m 0 (omega (arith, wide .in-least))

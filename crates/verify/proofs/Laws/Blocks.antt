@@ -7,10 +7,11 @@ use native.Mathlib.Decide.{decLt}
 use native.Mathlib.Omega.{arith}
 use borrow.Author.Count.{below-more}
 use borrow.Author.Tests.{le-ltb}
-use lib.IntN.{ℤ, pos}
+use lib.IntN.{ℤ, pos, natAbs}
 use lib.ListN.{length, getD}
-use Rattle.bounds.specs.Boxes.{Extreme}
-use Rattle.matching.specs.Definitions.Columns.{Inside}
+use Rattle.bounds.specs.Boxes.{Among, Extreme}
+use Rattle.bounds.proofs.Laws.Places.{among-small}
+use Rattle.matching.specs.Definitions.Columns.{edge}
 use Rattle.join.specs.Sizes.{numberRange}
 use Rattle.verify.specs.Open.{late, Ruled}
 use Rattle.verify.specs.Blocks.{Encloses}
@@ -48,14 +49,17 @@ module _ (ns : List ℕ) (xs ys : List ℤ) (far high : List ℕ) (first end : �
       let r = ruled (end - 1) (omega arith) in
       (omega (arith, r .placed .in-x), omega (arith, r .placed .in-y), omega (arith, r .in-f), omega (arith, r .in-h))
 
-  -- The rows that are farthest to each side make the box.
-  pub encloses : (l r b t n p : ℕ) → Extreme false xs first end l → Extreme true xs first end r → Extreme false ys first end b → Extreme true ys first end t
+  -- The positions that are farthest to each side make the box.
+  pub encloses : (l r b t : ℤ) (n p : ℕ) → Extreme false xs first end l → Extreme true xs first end r → Extreme false ys first end b → Extreme true ys first end t
       → ((k : ℕ) → first ≤ k → k < end → n ≤ getD ns k 0) → ((k : ℕ) → first ≤ k → k < end → getD far k 0 * numberRange + getD high k 0 ≤ p)
-      → Encloses ns xs ys far high first end (record { left = getD xs l (pos 0); right = getD xs r (pos 0); bottom = getD ys b (pos 0); top = getD ys t (pos 0); least = n; limit = p })
+      → Encloses ns xs ys far high first end (record { left = l; right = r; bottom = b; top = t; least = n; limit = p })
   encloses l r b t n p el er eb et least limit = record {
-    inner = ((inside l (el .to) .0, inside b (eb .to) .1), (inside r (er .to) .0, inside t (et .to) .1));
+    inner = ((across l (el .among), up b (eb .among)), (across r (er .among), up t (et .among)));
     holds = λ k h g. record { left = el .most k h g; right = er .most k h g; bottom = eb .most k h g; top = et .most k h g; least = least k h g; limit = limit k h g };
   }
     where
-      inside : (k : ℕ) → k < end → Inside (getD xs k (pos 0)) (getD ys k (pos 0))
-      inside k h = ruled k (omega arith) .placed .inside
+      across : (z : ℤ) → Among xs first end z → natAbs z ≤ edge
+      across = among-small xs first end edge (λ k h. ruled k (omega arith) .placed .inside .0)
+
+      up : (z : ℤ) → Among ys first end z → natAbs z ≤ edge
+      up = among-small ys first end edge (λ k h. ruled k (omega arith) .placed .inside .1)
