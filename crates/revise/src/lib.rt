@@ -127,7 +127,6 @@ fn follow(
         row: 0,
         rich: n,
         links: 0,
-        done: false,
     };
     let m = run::all(
         s,

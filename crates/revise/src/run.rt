@@ -18,12 +18,19 @@ ghost use Rattle.join.specs.Sizes.{linkRows};
 ghost use Rattle.verify.specs.Rows.{Level};
 ghost use Rattle.revise.specs.Rows.{Board, Desk, Fair};
 
-// Where the run is: the next link there, how many rows are richer, how many links are written, and whether it is done.
+// Where the run is: the next link there, how many rows are richer, and how many links are written.
 pub struct Run {
     pub row: usize,
     pub rich: usize,
     pub links: usize,
-    pub done: bool,
+}
+
+// The run is done: of n links there none is left, and no row is richer. A flag in the struct would be copied with its padding, which is slow.
+fn done(s: Run, n: usize) -> bool {
+    if s.row < n {
+        return false;
+    }
+    s.rich == 0
 }
 
 // Link k there: taken with what its rows have left now, unless it is the edited node's.
@@ -149,7 +156,7 @@ fn choose(k: usize, n: usize, ns: &[u32], rich: &[u64], la: &[u32], lb: &[u32], 
     e
 }
 
-// One turn: the earlier of the next link there and of the richer rows' pairs. With neither, the run is done.
+// One turn: the earlier of the next link there and of the richer rows' pairs.
 fn turn(
     s: Run,
     z: u32,
@@ -181,34 +188,33 @@ fn turn(
     if e < n {
         return grasp(s, e, split, ns, xs, ys, edges, was, left, rich, news, km);
     }
-    let mut r = s;
-    if k < la.len() {
-        r.row = k + 1;
-        return follow(
-            r,
-            k,
-            z,
-            second,
-            split,
-            ns,
-            xs,
-            ys,
-            edges,
-            was,
-            left,
-            rich,
-            la,
-            lb,
-            ld,
-            lm,
-            ia,
-            ib,
-            news,
-            km,
-        );
+    if k >= la.len() {
+        return s;
     }
-    r.done = true;
-    r
+    let mut r = s;
+    r.row = k + 1;
+    follow(
+        r,
+        k,
+        z,
+        second,
+        split,
+        ns,
+        xs,
+        ys,
+        edges,
+        was,
+        left,
+        rich,
+        la,
+        lb,
+        ld,
+        lm,
+        ia,
+        ib,
+        news,
+        km,
+    )
 }
 
 // Turns until the links there and the richer rows are done, or there have been too many; gives the number of links.
@@ -240,7 +246,7 @@ pub fn all(
     let mut s = s;
     let mut k = 0;
     while k < sizes::TURNS {
-        if s.done {
+        if done(s, la.len()) {
             return s.links;
         }
         s = turn(

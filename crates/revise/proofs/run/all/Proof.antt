@@ -17,6 +17,9 @@ abbrev μ-loop : tie.MeasureT-loop
 loop-holds : tie.Need-loop-holds Inv-loop μ-loop
 loop-holds c = search needs
 
+done-requires : tie.Need-done-requires Inv-loop μ-loop
+done-requires c κs = search needs
+
 same-length : tie.Need-same-length Inv-loop μ-loop
 same-length c = search needs
 
@@ -39,7 +42,7 @@ returns : tie.Need-returns Inv-loop μ-loop
 returns c = search needs
 
 turn-requires : tie.Need-turn-requires Inv-loop μ-loop
-turn-requires c κs = let p = c .before .before .before .before .before .before .before .before .before .before .before .before .before .before .before .before .before .before .before .before .before .before .pre in let i = c .before .before .before .before .before .before .before .before .loop .inv in ((p .0 .0, i .0, i .1), p .1)
+turn-requires c κs = let p = c .before .before .before .before .before .before .before .before .before .before .before .before .before .before .before .before .before .before .before .before .before .before .before .pre in let i = c .before .before .before .before .before .before .before .before .before .loop .inv in ((p .0 .0, i .0, i .1), p .1)
 
 add-k : tie.Need-add-k Inv-loop μ-loop
 add-k c = search needs
@@ -78,6 +81,7 @@ all-spec =
     Inv-loop
     μ-loop
     loop-holds
+    done-requires
     same-length
     same-length-2
     same-length-3

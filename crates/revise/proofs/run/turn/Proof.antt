@@ -31,14 +31,17 @@ same-length-6 c = search needs
 returns : tie.Need-returns
 returns c = search needs
 
+same-length-7 : tie.Need-same-length-7
+same-length-7 c = search needs
+
+returns-2 : tie.Need-returns-2
+returns-2 c = search needs
+
 add-r : tie.Need-add-r
 add-r c = omega (arith, c .before .before .before .before .before .before .before .before .before .before .before .before .before .before .before .before .before .good)
 
 follow-requires : tie.Need-follow-requires
-follow-requires c κs = let p = c .before .before .before .before .before .before .before .before .before .before .before .before .before .before .before .before .before .before .before .before .before .before .before .pre in ((p .0 .0, p .0 .1, record { rich = p .0 .2 .rich; links = p .0 .2 .links }), (p .1, c .before .before .before .before .before .before .if2 .taken))
-
-same-length-7 : tie.Need-same-length-7
-same-length-7 c = search needs
+follow-requires c κs = let p = c .before .before .before .before .before .before .before .before .before .before .before .before .before .before .before .before .before .before .before .before .before .before .before .pre in ((p .0 .0, p .0 .1, record { rich = p .0 .2 .rich; links = p .0 .2 .links }), (p .1, omega (arith, c .before .before .before .before .before .before .if2 .left)))
 
 same-length-8 : tie.Need-same-length-8
 same-length-8 c = search needs
@@ -54,9 +57,6 @@ same-length-11 c = search needs
 
 same-length-12 : tie.Need-same-length-12
 same-length-12 c = search needs
-
-returns-2 : tie.Need-returns-2
-returns-2 c = search needs
 
 same-length-13 : tie.Need-same-length-13
 same-length-13 c = search needs
@@ -77,14 +77,14 @@ turn-spec =
     same-length-5
     same-length-6
     returns
+    same-length-7
+    returns-2
     add-r
     follow-requires
-    same-length-7
     same-length-8
     same-length-9
     same-length-10
     same-length-11
     same-length-12
-    returns-2
     same-length-13
     returns-3)
