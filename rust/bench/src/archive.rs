@@ -1,6 +1,6 @@
 //! The engine's five calls, through the archive.
 
-use differential::exported::{pairing_bands, pairing_edit, pairing_spare, pairing_step};
+use differential::exported::{pairing_bands, pairing_spare, pairing_step};
 
 use crate::calls::Calls;
 
@@ -19,15 +19,7 @@ impl Calls for Archive {
     }
 
     fn edit(&mut self, a: &mut [u8], b: &mut [u8], list: &mut [u8], edit: &[u8]) -> u32 {
-        let (a_at, a_len) = (a.as_mut_ptr(), a.len());
-        let (b_at, b_len) = (b.as_mut_ptr(), b.len());
-        let (list_at, list_len) = (list.as_mut_ptr(), list.len());
-        let (edit_at, edit_len) = (edit.as_ptr(), edit.len());
-        unsafe {
-            pairing_edit(
-                a_at, a_len, b_at, b_len, list_at, list_len, edit_at, edit_len,
-            )
-        }
+        differential::edit(a, b, list, edit)
     }
 
     fn spare(&mut self, a: &[u8], b: &[u8], list: &[u8], master: u8, number: u16) -> u32 {

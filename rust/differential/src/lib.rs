@@ -71,3 +71,20 @@ pub fn pair(a: &[u8], b: &[u8], list: &mut [u8]) -> u32 {
         )
     }
 }
+
+/// Edit: a table and the list as the edit leaves them, or a refusal.
+pub fn edit(a: &mut [u8], b: &mut [u8], list: &mut [u8], edit: &[u8]) -> u32 {
+    // As above: all three that are written are borrowed mutably, so that no two overlap.
+    unsafe {
+        exported::pairing_edit(
+            a.as_mut_ptr(),
+            a.len(),
+            b.as_mut_ptr(),
+            b.len(),
+            list.as_mut_ptr(),
+            list.len(),
+            edit.as_ptr(),
+            edit.len(),
+        )
+    }
+}

@@ -1,7 +1,7 @@
 //! Edits that leave many nodes with more than they had: up to as many as a revision of the links keeps at a time, and one
 //! more, where the links are joined anew.
 
-use differential::exported::pairing_edit;
+use differential::edit;
 use model::buffers::{links_of, table_of};
 use model::engine::{Engine, Model};
 use model::rows::{Edit, Node};
@@ -15,22 +15,6 @@ fn drawing(held: u64) -> (Vec<Node>, Vec<Node>) {
     ];
     let others = (1..=held).map(|n| Node::new(n, n as i64, 0, 1)).collect();
     (holders, others)
-}
-
-fn edit(a: &mut [u8], b: &mut [u8], list: &mut [u8], edit: &[u8]) -> u32 {
-    // The buffers are slices of their lengths, and no two overlap.
-    unsafe {
-        pairing_edit(
-            a.as_mut_ptr(),
-            a.len(),
-            b.as_mut_ptr(),
-            b.len(),
-            list.as_mut_ptr(),
-            list.len(),
-            edit.as_ptr(),
-            edit.len(),
-        )
-    }
 }
 
 #[test]
