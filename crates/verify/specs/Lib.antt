@@ -4,6 +4,7 @@ pub mod Rows
 pub mod Limits
 pub mod Open
 pub mod Blocks
+pub mod Lanes
 pub mod Links
 pub mod Later
 pub mod Barred

@@ -2,6 +2,7 @@
 // Limits that are known to shut all pairs are lent, and only pairs that may be open by the links' own limits are looked at.
 mod blocks;
 mod carried;
+mod lanes;
 mod later;
 mod limits;
 mod links;

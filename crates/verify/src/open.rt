@@ -1,6 +1,7 @@
 // A pass over the pairs of A's places and B's, both block by block: is one of them ahead of the limits of both its nodes? Then it is missing among the links.
 use super::blocks;
 use super::blocks::Block;
+use super::lanes;
 use crate::sizes;
 ghost use Prim.Native.Nat.{ℕ, _+_, _*_, _≤_, _<_, min};
 ghost use mathlib.Core.Path.{_≡_};
@@ -198,6 +199,62 @@ fn open_block(
     false
 }
 
+// The same, by copies of B's places, so that the innermost loop runs a fixed number of times.
+fn open_lanes(
+    groups: [Block; sizes::BLOCKS],
+    first: usize,
+    end: usize,
+    an: &[u32],
+    ax: &[i16],
+    ay: &[i16],
+    af: &[u32],
+    ah: &[u32],
+    bn: &[u32],
+    bx: &[i16],
+    by: &[i16],
+    bf: &[u32],
+    bh: &[u32],
+) -> bool
+    requires { ⌜ ((i : ℕ) → i < length (now an) → Ruled (now an) (now ax) (now ay) (now af) (now ah) i) × ((j : ℕ) → j < length (now bn) → Ruled (now bn) (now bx) (now by) (now bf) (now bh) j) × (length (now an) ≤ masterRows) × (first < end) × (end ≤ length (now bn)) × (length (now bn) ≤ masterRows) ⌝ }
+    requires { ⌜ Surveyed (now an) (now ax) (now ay) (now af) (now ah) groups × (end ≤ first + blockRows) ⌝ }
+    ensures { λ r. ⌜ (r ≡ false → (i : ℕ) → i < length (now (an .entry)) → (j : ℕ) → first ≤ j → j < end → Shut (now (an .entry)) (now (ax .entry)) (now (ay .entry)) (now (af .entry)) (now (ah .entry)) (now (bn .entry)) (now (bx .entry)) (now (by .entry)) (now (bf .entry)) (now (bh .entry)) i j) ⌝ }
+{
+    let mut cn = [0u32; sizes::BLOCK];
+    let mut cx = [0i16; sizes::BLOCK];
+    let mut cy = [0i16; sizes::BLOCK];
+    let mut cf = [0u32; sizes::BLOCK];
+    let mut ch = [0u32; sizes::BLOCK];
+    lanes::fill(
+        first,
+        end,
+        bn,
+        bx,
+        by,
+        bf,
+        bh,
+        &mut cn,
+        &mut cx,
+        &mut cy,
+        &mut cf,
+        &mut ch,
+    );
+    open_block(
+        groups,
+        0,
+        sizes::BLOCK,
+        an,
+        ax,
+        ay,
+        af,
+        ah,
+        &cn,
+        &cx,
+        &cy,
+        &cf,
+        &ch,
+    )
+}
+
 // Some pair of A's places and B's is.
 pub fn any_open(
     an: &[u32],
@@ -218,7 +275,7 @@ pub fn any_open(
     let mut first = 0;
     while first < bn.len() {
         let end = blocks::end(first, bn.len());
-        if open_block(groups, first, end, an, ax, ay, af, ah, bn, bx, by, bf, bh) {
+        if open_lanes(groups, first, end, an, ax, ay, af, ah, bn, bx, by, bf, bh) {
             return true;
         }
         first = end;

@@ -73,7 +73,7 @@ returns c =
     let s = c .before .before .extreme3 in
     let n = c .before .extreme4 in
     rw (back (w .result) (w .ok), back (e .result) (e .ok), back (s .result) (s .ok), back (n .result) (n .ok))
-      (framed _ _ _ _ _ _ _ _ _ _ _ _ (p .0) (p .2) (p .3) (p .4) (w .ensures) (e .ensures) (s .ensures) (n .ensures) (c .lowest .ensures))
+    (framed _ _ _ _ _ _ _ _ _ _ _ _ (p .0) (p .2) (p .3) (p .4) (w .ensures) (e .ensures) (s .ensures) (n .ensures) (c .lowest .ensures))
 
 pub frame-spec : {M : Type 1} → statement M
 frame-spec =

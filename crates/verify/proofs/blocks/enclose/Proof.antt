@@ -37,7 +37,7 @@ returns c =
     let b = c .before .before .before .extreme3 in
     let t = c .before .before .extreme4 in
     rw (back (l .result) (l .ok), back (r .result) (r .ok), back (b .result) (b .ok), back (t .result) (t .ok))
-      (encloses _ _ _ _ _ _ _ (p .0) (p .1) (p .2) _ _ _ _ _ _ (l .ensures) (r .ensures) (b .ensures) (t .ensures) (c .before .least .ensures) (c .limit .ensures))
+    (encloses _ _ _ _ _ _ _ (p .0) (p .1) (p .2) _ _ _ _ _ _ (l .ensures) (r .ensures) (b .ensures) (t .ensures) (c .before .least .ensures) (c .limit .ensures))
 
 pub enclose-spec : {M : Type 1} → statement M
 enclose-spec =

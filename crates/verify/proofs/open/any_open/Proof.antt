@@ -25,8 +25,8 @@ loop-holds c = λ i h. below-none _
 end-requires : tie.Need-end-requires Inv-loop μ-loop
 end-requires c κs = c .loop-test .taken
 
-open-block-requires : tie.Need-open-block-requires Inv-loop μ-loop
-open-block-requires c κs = let p = c .before .before .before .before .before .before .before .before .before .before .pre in ((p .0, p .1, p .2, c .end .ensures .0, c .end .ensures .1, p .3), c .before .before .before .survey .ensures)
+open-lanes-requires : tie.Need-open-lanes-requires Inv-loop μ-loop
+open-lanes-requires c κs = let p = c .before .before .before .before .before .before .before .before .before .before .pre in ((p .0, p .1, p .2, c .end .ensures .0, c .end .ensures .1, p .3), (c .before .before .before .survey .ensures, omega (arith, c .end .ensures .2)))
 
 returns : tie.Need-returns Inv-loop μ-loop
 returns c = λ h. absurd (false≢true (sym h))
@@ -35,7 +35,7 @@ loop-less : tie.Need-loop-less Inv-loop μ-loop
 loop-less c = omega arith
 
 loop-again : tie.Need-loop-again Inv-loop μ-loop
-loop-again c = λ i h. block-more _ _ _ (c .before .before .before .before .loop .inv i h) (c .before .open-block .ensures (c .if1 .left) i h)
+loop-again c = λ i h. block-more _ _ _ (c .before .before .before .before .loop .inv i h) (c .before .open-lanes .ensures (c .if1 .left) i h)
 
 returns-2 : tie.Need-returns-2 Inv-loop μ-loop
 returns-2 c = λ w i j h g. c .before .loop .inv i h j (omega arith)
@@ -49,7 +49,7 @@ any-open-spec =
     survey-requires
     loop-holds
     end-requires
-    open-block-requires
+    open-lanes-requires
     returns
     loop-less
     loop-again
