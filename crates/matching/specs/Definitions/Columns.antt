@@ -32,17 +32,17 @@ unfoldable pub linksOf : List ℕ → List ℕ → List ℕ → List ℕ → ℕ
 unfolding tabulate
 linksOf la lb ld lm n = tabulate (linkAt la lb ld lm) 0 n
 
--- Where code works: no position is farther than this from the middle, across or up,
+-- Where code works: positions are from -16,384 to 16,384,
 abbrev pub edge : ℕ
 edge = 16384
 
 abbrev pub Inside : ℤ → ℤ → Type 0
 Inside x y = (natAbs x ≤ edge) × (natAbs y ≤ edge)
 
--- so that two differ by no more than this,
+-- so that differences are from -32,768 to 32,768,
 abbrev pub reach : ℕ
 reach = 32768
 
--- and their squared distance fits four bytes.
+-- and the squared distance fits four bytes.
 abbrev pub Reach : ℤ → ℤ → ℤ → ℤ → Type 0
 Reach x y u v = (natAbs (x -ℤ u) ≤ reach) × (natAbs (y -ℤ v) ≤ reach)
