@@ -10,7 +10,8 @@ use lib.Dec.{eqb}
 use lib.ListN.{length, take, drop, replicate, length-drop}
 use lib.Seq.{length-take-le, take-all, take-take, take-add, drop-at}
 use Rattle.tables.specs.Definitions.Sizes.{tableSize, listSize, editSize}
-use Rattle.contract.specs.Definitions.Calls.{Outcome, pairCall}
+use Rattle.contract.specs.Definitions.Shapes.{Outcome}
+use Rattle.contract.specs.Definitions.Calls.{pairCall}
 use Rattle.player.specs.Definitions.Lines.{refusalIn, loadLine}
 use Rattle.player.specs.Definitions.Transcript.{Drawing, drawing, after, turnLine, editAt, edited, editLines, editsMost, tablesSize, linkLines, playable, playLines, loadLines, tableA, tableB, editsIn, transcript, inputRoom}
 use Rattle.player.specs.Laws.Play.{left-unread, input-whole}
@@ -61,7 +62,7 @@ module _ (es : List ℕ) (long : editSize * editsMost ≤ length es) where
   unfolding loadLines
   same-load a b l =
       let o : Outcome = pairCall a b l in
-      ap (λ (r : List ℕ). cond (eqb (refusalIn (o .code)) 0) (loadLine (o .code) ++ r) (loadLine (o .code))) (same-play (drawing a b (o .list)))
+      ap (λ (r : List ℕ). cond (eqb (refusalIn (o .code)) 0) (loadLine (o .code) ++ r) (loadLine (o .code))) (same-play (drawing a b (o .held .list)))
 
 -- What is read decides all that is printed: bytes behind the 10,000th edit change nothing.
 pub read-decides : (input : List ℕ) → transcript (take inputRoom input) ≡ transcript input

@@ -7,7 +7,8 @@ use lib.ListN.{length, take, drop, replicate}
 use Rattle.tables.specs.Definitions.Sizes.{tableSize, linkRows, listSize, editSize}
 use Rattle.tables.specs.Definitions.Rows.{flat}
 use Rattle.tables.specs.Definitions.Lists.{linksIn}
-use Rattle.contract.specs.Definitions.Calls.{Outcome, pairCall, editCall}
+use Rattle.contract.specs.Definitions.Shapes.{Outcome}
+use Rattle.contract.specs.Definitions.Calls.{pairCall, editCall}
 use Rattle.player.specs.Definitions.Lines.{lineRoom, refusalIn, loadLine, editLine, partLine, linkLine, shortLine}
 
 -- After so many edits nothing more is read.
@@ -31,12 +32,12 @@ abbrev pub outcomeOf : Drawing → List ℕ → Outcome
 outcomeOf d e = editCall (d .a) (d .b) (d .list) e
 
 abbrev pub after : Drawing → List ℕ → Drawing
-after d e = drawing (outcomeOf d e .a) (outcomeOf d e .b) (outcomeOf d e .list)
+after d e = drawing (outcomeOf d e .held .a) (outcomeOf d e .held .b) (outcomeOf d e .held .list)
 
 -- The line of edit e, the n-th.
 unfoldable pub turnLine : ℕ → Drawing → List ℕ → List ℕ
 unfolding editLine linksIn
-turnLine n d e = editLine n (outcomeOf d e .code) (length (linksIn (outcomeOf d e .list)))
+turnLine n d e = editLine n (outcomeOf d e .code) (length (linksIn (outcomeOf d e .held .list)))
 
 -- Edit k of es, from 0.
 abbrev pub editAt : List ℕ → ℕ → List ℕ
@@ -74,7 +75,7 @@ unfolding loadLine playLines
 loadLines a b l es =
     let o : Outcome = pairCall a b l in
     cond (eqb (refusalIn (o .code)) 0)
-    (loadLine (o .code) ++ playLines (drawing a b (o .list)) es)
+    (loadLine (o .code) ++ playLines (drawing a b (o .held .list)) es)
     (loadLine (o .code))
 
 -- An input is table A, table B, and edits.

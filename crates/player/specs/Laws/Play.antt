@@ -11,20 +11,22 @@ use Rattle.tables.specs.Definitions.Sizes.{listSize, editSize}
 use Rattle.tables.specs.Definitions.Rows.{put}
 use Rattle.tables.specs.Definitions.Lists.{linksIn}
 use Rattle.tables.specs.Laws.ListCode.{put-all}
-use Rattle.contract.specs.Definitions.Calls.{Outcome, pairCall, editCall}
+use Rattle.contract.specs.Definitions.Buffers.{lent}
+use Rattle.contract.specs.Definitions.Shapes.{Outcome}
+use Rattle.contract.specs.Definitions.Calls.{pairCall, editCall}
 use Rattle.player.specs.Definitions.Text.{Written}
 use Rattle.player.specs.Definitions.Lines.{refusalIn, loadLine, editLine, partLine, shortLine}
 use Rattle.player.specs.Definitions.Transcript.{Drawing, drawing, after, turnLine, editAt, edited, editLines, editsMost, tablesSize, leftLine, linkLines, playable, playLines, loadLines, tableA, tableB, editsIn, transcript}
 use Rattle.player.specs.Laws.Text.{written-none, written-then, written-as}
 
 -- One edit.
-module _ (a b l e a′ b′ l′ : List ℕ) (answer : ℕ) (h : record { code = answer; a = a′; b = b′; list = l′; others = e ∷ [] } ≡ editCall a b l e) where
+module _ (a b l e a′ b′ l′ : List ℕ) (answer : ℕ) (h : record { code = answer; held = lent a′ b′ l′; others = e ∷ [] } ≡ editCall a b l e) where
   pub turn-after : drawing a′ b′ l′ ≡ after (drawing a b l) e
-  turn-after = ap (λ (o : Outcome). drawing (o .a) (o .b) (o .list)) h
+  turn-after = ap (λ (o : Outcome). drawing (o .held .a) (o .held .b) (o .held .list)) h
 
   pub turn-line : (n links : ℕ) → links ≡ length (linksIn l′) → editLine n answer links ≡ turnLine n (drawing a b l) e
   unfolding turnLine
-  turn-line n links k = ap (editLine n answer) k ∙ ap (λ (o : Outcome). editLine n (o .code) (length (linksIn (o .list)))) h
+  turn-line n links k = ap (editLine n answer) k ∙ ap (λ (o : Outcome). editLine n (o .code) (length (linksIn (o .held .list)))) h
 
 -- The edits: one more, the drawing D being what the first k leave.
 module _ (d : Drawing) (es : List ℕ) (k : ℕ) (D : Drawing) (e : List ℕ) (h : D ≡ edited d es k) (g : e ≡ editAt es k) where
@@ -68,24 +70,24 @@ unfolding playLines
 play-lines d es D h = ap (λ (x : Drawing). editLines d es (playable (length es)) ++ leftLine (length es) ++ linkLines (x .list)) h
 
 -- Loaded or not.
-module _ (a b l es l′ : List ℕ) (answer : ℕ) (h : record { code = answer; a = a; b = b; list = l′; others = [] } ≡ pairCall a b l) where
+module _ (a b l es l′ : List ℕ) (answer : ℕ) (h : record { code = answer; held = lent a b l′; others = [] } ≡ pairCall a b l) where
   linesOf : Outcome → List ℕ
-  linesOf o = cond (eqb (refusalIn (o .code)) 0) (loadLine (o .code) ++ playLines (drawing a b (o .list)) es) (loadLine (o .code))
+  linesOf o = cond (eqb (refusalIn (o .code)) 0) (loadLine (o .code) ++ playLines (drawing a b (o .held .list)) es) (loadLine (o .code))
 
-  lines-of : linesOf (record { code = answer; a = a; b = b; list = l′; others = [] }) ≡ loadLines a b l es
+  lines-of : linesOf (record { code = answer; held = lent a b l′; others = [] }) ≡ loadLines a b l es
   unfolding linesOf loadLines
   lines-of = ap linesOf h
 
   pub load-stops : ¬ (refusalIn answer ≡ 0) → loadLine answer ≡ loadLines a b l es
   load-stops g = stops ∙ lines-of
     where
-      stops : loadLine answer ≡ linesOf (record { code = answer; a = a; b = b; list = l′; others = [] })
+      stops : loadLine answer ≡ linesOf (record { code = answer; held = lent a b l′; others = [] })
       stops = unfold linesOf in rw (ne-eqb (refusalIn answer) 0 g)
 
   pub load-plays : refusalIn answer ≡ 0 → loadLine answer ++ playLines (drawing a b l′) es ≡ loadLines a b l es
   load-plays g = plays ∙ lines-of
     where
-      plays : loadLine answer ++ playLines (drawing a b l′) es ≡ linesOf (record { code = answer; a = a; b = b; list = l′; others = [] })
+      plays : loadLine answer ++ playLines (drawing a b l′) es ≡ linesOf (record { code = answer; held = lent a b l′; others = [] })
       plays = unfold linesOf in rw (eq-eqb (refusalIn answer) 0 g)
 
 -- The whole input.

@@ -2,7 +2,9 @@
 use mathlib.Core.Path.{refl, sym}
 use native.Mathlib.Omega.{arith}
 use borrow.Author.Tests.{eq-eqb, ne-eqb}
+use Rattle.contract.specs.declared.Refusal.the-variants.{Unfinished}
 use Rattle.contract.specs.Definitions.Requests.{bands}
+use Rattle.contract.specs.Laws.Places.{tried}
 use Rattle.pairing.specs.Verdicts.{Finished}
 use Rattle.pairing.specs.Laws.Verdicts.{list-links, cut-distances}
 use Rattle.pairing.specs.Laws.Calls.{own-call, list-call, bands-call}
@@ -62,11 +64,15 @@ returns-2 c =
     let l = c .before .before .before .before .before .before .before .before .before .before .before .before .list .last .1 .1 .1 in
     bands-call (x .a .now) (x .b .now) (x .list .now) (l .0) (l .1 .0) (l .1 .1 .0) (l .1 .1 .1 .0) _ (found (c .before .before .before .before .before)) (x .counts .now) _ (eq-eqb _ _ (c .before .before .before .before .before .before .before .before .before .before .before .before .before .before .before .before .before .if1 .left)) (c .before .before .count-bands .ensures)
 
+enum-told : tie.Need-enum-told
+enum-told c = search needs
+
 returns-3 : tie.Need-returns-3
 returns-3 c =
-    let x = c .before .before .before .before .before .before .before .before .before .before .before .before .before .before .before .args in
-    let l = c .before .before .before .before .before .list .last .1 .1 .1 in
-    list-call (bands (x .counts .now)) (x .a .now) (x .b .now) (x .list .now) (l .0) (l .1 .0) (l .1 .1 .0) (l .1 .1 .1 .0) (c .before .before .before .before .before .list .result) (c .match .keys2) (c .before .before .before .before .before .list .ensures) refl (eq-eqb _ _ (c .before .before .before .before .before .before .before .before .before .before .if1 .left))
+    let at-list = c .before .before .before .before .before .before in
+    let x = at-list .before .before .before .before .before .before .before .before .before .before .args in
+    let l = at-list .list .last .1 .1 .1 in
+    list-call (bands (x .counts .now)) (x .a .now) (x .b .now) (x .list .now) (l .0) (l .1 .0) (l .1 .1 .0) (l .1 .1 .1 .0) (at-list .list .result) (c .before .match .keys2) (at-list .list .ensures) refl (eq-eqb _ _ (at-list .before .before .before .before .before .if1 .left)) (tried _ _ Unfinished refl refl)
 
 pub bands-spec : {M : Type 1} → statement M
 bands-spec =
@@ -83,6 +89,7 @@ bands-spec =
     array-share-prefix-ld
     slice-aggregate-count-bands
     count-bands-requires
+    enum-told
     same-length
     returns-2
     returns-3)

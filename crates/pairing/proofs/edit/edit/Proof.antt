@@ -1,7 +1,9 @@
 -- `pairing::edit::edit` meets its contract: the verdict on the tables, or what comes of the list. Assumes nothing.
 use mathlib.Core.Path.{refl}
 use borrow.Author.Tests.{eq-eqb, ne-eqb}
+use Rattle.contract.specs.declared.Refusal.the-variants.{TableB}
 use Rattle.contract.specs.Definitions.Requests.{edit}
+use Rattle.contract.specs.Laws.Places.{tried}
 use Rattle.pairing.specs.Laws.Verdicts.{tables-sound}
 use Rattle.pairing.specs.Laws.Calls.{own-call, tables-call}
 use borrow.Author.Needs.{needs}
@@ -32,6 +34,9 @@ same-length-3 c = c .before .list .given
 returns-2 : tie.Need-returns-2
 returns-2 c = c .before .before .before .before .before .before .begin .ensures
 
+enum-told-2 : tie.Need-enum-told-2
+enum-told-2 c = search needs
+
 same-length-4 : tie.Need-same-length-4
 same-length-4 c = refl
 
@@ -42,7 +47,7 @@ same-length-6 : tie.Need-same-length-6
 same-length-6 c = refl
 
 returns-3 : tie.Need-returns-3
-returns-3 c = let x = c .before .before .before .before .before .before .before .before .before .before .args in tables-call (edit (x .edit .now)) (x .a .now) (x .b .now) (x .list .now) (c .before .tables .result) (c .match .keys2) (c .before .tables .ensures) (eq-eqb _ _ (c .before .before .before .before .before .if1 .left))
+returns-3 c = let x = c .before .before .before .before .before .before .before .before .before .before .before .args in tables-call (edit (x .edit .now)) (x .a .now) (x .b .now) (x .list .now) (c .before .before .tables .result) (c .before .match .keys2) (c .before .before .tables .ensures) (eq-eqb _ _ (c .before .before .before .before .before .before .if1 .left)) (tried _ _ TableB refl refl)
 
 pub edit-spec : {M : Type 1} → statement M
 edit-spec =
@@ -52,6 +57,7 @@ edit-spec =
     tables-requires
     enum-told
     begin-requires
+    enum-told-2
     same-length
     same-length-2
     same-length-3

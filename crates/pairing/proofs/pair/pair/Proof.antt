@@ -1,7 +1,9 @@
 -- `pairing::pair::pair` meets its contract: refused by the verdict on the tables, or the list written whole. Assumes nothing.
 use native.Mathlib.Omega.{arith}
 use Rattle.tables.specs.Laws.ListRead.{bytes-known}
+use Rattle.contract.specs.declared.Refusal.the-variants.{TableB}
 use Rattle.contract.specs.Definitions.Requests.{pair}
+use Rattle.contract.specs.Laws.Places.{tried}
 use Rattle.pairing.specs.Laws.Verdicts.{tables-sound, joined-long}
 use Rattle.pairing.specs.Laws.Calls.{tables-call, pair-call}
 use mathlib.Core.Path.{refl}
@@ -64,13 +66,16 @@ returns c =
     let l = c .before .before .before .before .before .before .before .before .before .before .before .before .links .last .1 .1 in
     pair-call (x .a .now) (x .b .now) (x .list .now) (l .0) (l .1 .0) (l .1 .1 .0) (l .1 .1 .1 .0) _ _ (s .0) (bytes-known (x .a .now) (c .before .before .before .before .before .before .before .before .before .before .before .before .before .before .before .before .before .before .before .before .before .before .before .shared-slice-known .given)) (bytes-known (x .b .now) (c .before .before .before .before .before .before .before .before .before .before .before .before .before .before .before .before .before .before .before .before .before .before .shared-slice-known2 .given)) (s .1) (c .before .before .before .before .before .before .before .before .before .before .before .before .links .ensures) (c .before .before .write-links .ensures)
 
+enum-told-2 : tie.Need-enum-told-2
+enum-told-2 c = search needs
+
 same-length-2 : tie.Need-same-length-2
 same-length-2 c = search needs
 
 returns-2 : tie.Need-returns-2
 returns-2 c =
-    let x = c .before .before .before .before .before .before .args in
-    tables-call pair (x .a .now) (x .b .now) (x .list .now) (c .before .tables .result) (c .match .keys2) (c .before .tables .ensures) refl
+    let x = c .before .before .before .before .before .before .before .args in
+    tables-call pair (x .a .now) (x .b .now) (x .list .now) (c .before .before .tables .result) (c .before .match .keys2) (c .before .before .tables .ensures) refl (tried _ _ TableB refl refl)
 
 pub pair-spec : {M : Type 1} → statement M
 pair-spec =
@@ -89,6 +94,7 @@ pair-spec =
     slice-aggregate-write-links-4
     write-links-requires
     cast-t32
+    enum-told-2
     same-length
     returns
     same-length-2

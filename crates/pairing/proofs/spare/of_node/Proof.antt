@@ -26,8 +26,8 @@ capacity-in-requires c κs = search needs
 spare-requires : tie.Need-spare-requires
 spare-requires c κs = search needs
 
-cast-t10 : tie.Need-cast-t10
-cast-t10 c =
+cast-t12 : tie.Need-cast-t12
+cast-t12 c =
     let t = c .before .before .before .before .before .before .before .before .args .t .now in
     record { fits = omega (arith, c .spare .ensures, c .before .capacity-in .ensures, nat-high capacitySize t (bytes-known t (c .before .before .before .before .before .before .before .shared-slice-known .given)) (nodeSize * (c .before .before .before .row-of .result) + nodeCapacity)) }
 
@@ -46,5 +46,5 @@ of-node-spec =
     returns-2
     capacity-in-requires
     spare-requires
-    cast-t10
+    cast-t12
     returns-3)

@@ -1,7 +1,9 @@
 -- `pairing::spare::spare` meets its contract: the verdict's answer, or the node's. Assumes nothing.
 use mathlib.Core.Path.{refl, sym, _∙_}
 use native.Mathlib.Omega.{arith}
+use Rattle.contract.specs.declared.Refusal.the-variants.{Unfinished}
 use Rattle.contract.specs.Definitions.Requests.{spare}
+use Rattle.contract.specs.Laws.Places.{tried}
 use Rattle.pairing.specs.Verdicts.{Finished}
 use Rattle.pairing.specs.Laws.Verdicts.{list-links, cut-a, cut-b, cut-amounts}
 use Rattle.pairing.specs.Laws.Calls.{list-call}
@@ -70,11 +72,15 @@ returns c =
     let l = c .before .before .before .before .before .before .before .before .before .before .before .list .last .1 .1 .1 in
     spare-call (x .a .now) (x .b .now) (x .list .now) (l .0) (l .1 .0) (l .1 .1 .0) (l .1 .1 .1 .0) _ (found (c .before .before .before .before)) (x .master) (x .number) _ (c .of-master .ensures)
 
+enum-told : tie.Need-enum-told
+enum-told c = search needs
+
 returns-2 : tie.Need-returns-2
 returns-2 c =
-    let x = c .before .before .before .before .before .before .before .before .before .before .before .before .before .args in
-    let l = c .before .before .before .before .before .list .last .1 .1 .1 in
-    list-call (spare (x .master) (x .number)) (x .a .now) (x .b .now) (x .list .now) (l .0) (l .1 .0) (l .1 .1 .0) (l .1 .1 .1 .0) (c .before .before .before .before .before .list .result) (c .match .keys2) (c .before .before .before .before .before .list .ensures) refl refl
+    let at-list = c .before .before .before .before .before .before in
+    let x = at-list .before .before .before .before .before .before .before .before .args in
+    let l = at-list .list .last .1 .1 .1 in
+    list-call (spare (x .master) (x .number)) (x .a .now) (x .b .now) (x .list .now) (l .0) (l .1 .0) (l .1 .1 .0) (l .1 .1 .1 .0) (at-list .list .result) (c .before .match .keys2) (at-list .list .ensures) refl refl (tried _ _ Unfinished refl refl)
 
 pub spare-spec : {M : Type 1} → statement M
 spare-spec =
@@ -94,5 +100,6 @@ spare-spec =
     array-share-prefix-lm
     slice-aggregate-of-master-3
     of-master-requires
+    enum-told
     returns
     returns-2)

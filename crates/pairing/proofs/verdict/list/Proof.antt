@@ -28,8 +28,11 @@ same-length-4 c = search needs
 returns : tie.Need-returns
 returns c = search needs
 
+enum-told-2 : tie.Need-enum-told-2
+enum-told-2 c = search needs
+
 returns-2 : tie.Need-returns-2
-returns-2 c = let x = c .before .before .before .before .before .before .before .before .before .args in list-refused (x .a .now) (x .b .now) (x .list .now) (x .la .now) (x .lb .now) (x .ld .now) (x .lm .now) (c .before .tables .result) (c .match .keys2) (c .before .tables .ensures)
+returns-2 c = let x = c .before .before .before .before .before .before .before .before .before .before .args in list-refused (x .a .now) (x .b .now) (x .list .now) (x .la .now) (x .lb .now) (x .ld .now) (x .lm .now) (c .before .before .tables .result) (c .before .match .keys2) (c .before .before .tables .ensures)
 
 pub list-spec : {M : Type 1} → statement M
 list-spec =
@@ -38,6 +41,7 @@ list-spec =
     tables-requires
     enum-told
     read-requires
+    enum-told-2
     same-length
     same-length-2
     same-length-3
