@@ -17,7 +17,7 @@ use Rattle.tables.specs.Laws.Edits.{Passes}
 use Rattle.contract.specs.declared.Answer.the-variants.{Done}
 use Rattle.contract.specs.declared.Refusal.{Refusal}
 use Rattle.contract.specs.Definitions.Answers.{order}
-use Rattle.contract.specs.Definitions.Buffers.{Drawing, links, buffers, nodesNamed}
+use Rattle.contract.specs.Definitions.Buffers.{Drawing, Good, links, buffers, nodesNamed}
 use Rattle.contract.specs.Definitions.Shapes.{Test, Outcome, IsDone, Shape, turn}
 use Rattle.contract.specs.Definitions.Tests as tests
 use Rattle.contract.specs.Definitions.Requests.{redrawn, editShape, edit}
@@ -27,7 +27,7 @@ use Rattle.contract.specs.Definitions.Drawing.{shown}
 use Rattle.contract.specs.Laws.Tests.{isOwn}
 use Rattle.contract.specs.Laws.Refusals.{Unfit}
 use Rattle.contract.specs.Laws.Places.{pick, ownAnswer}
-use Rattle.contract.specs.Laws.Drawing.{Good, drawn-room}
+use Rattle.contract.specs.Laws.Drawing.{drawn-room}
 use Rattle.contract.specs.Laws.Cases.{by-nodes}
 
 -- Where no own test fits, none answers.

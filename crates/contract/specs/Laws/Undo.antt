@@ -21,10 +21,10 @@ use Rattle.tables.specs.Laws.Fields.{nat-read, nat-high}
 use Rattle.tables.specs.Laws.Tables.{node-read}
 use Rattle.tables.specs.Laws.Edits.{Passes, Kind, arrival, departure, move, capacity, kind-cases, is-known}
 use Rattle.tables.specs.Laws.Edited.{fresh}
-use Rattle.contract.specs.Definitions.Buffers.{Drawing, drawing, links, masterNamed, nodesNamed}
+use Rattle.contract.specs.Definitions.Buffers.{Drawing, drawing, Good, links, masterNamed, nodesNamed}
 use Rattle.contract.specs.Definitions.Requests.{redrawn}
 use Rattle.contract.specs.Definitions.Undo.{editBytes, arrivalOf, departureOf, moveOf, resizeOf, back}
-use Rattle.contract.specs.Laws.Drawing.{Good, redrawn-good}
+use Rattle.contract.specs.Laws.Drawing.{redrawn-good}
 
 -- The edit of kind k for the master m that is made of a node w, whose capacity may be zero: its fields are those of w.
 record Made (k m : ℕ) (w : Node) : Type 0 where

@@ -10,17 +10,17 @@ use Rattle.tables.specs.Definitions.Tables.{Accepted}
 use Rattle.tables.specs.Definitions.Lists.{listBytes}
 use Rattle.tables.specs.Definitions.Edits.{masterOf, editNodes}
 use Rattle.tables.specs.Laws.Edits.{Passes}
-use Rattle.contract.specs.Definitions.Buffers.{Buffers, paired, lengthsOf, Drawing, drawn, buffers, masterNamed, nodesNamed}
+use Rattle.contract.specs.Definitions.Buffers.{Buffers, paired, lengthsOf, Drawing, Good, drawn, buffers, masterNamed, nodesNamed}
 use Rattle.contract.specs.Definitions.Shapes.{Outcome, IsDone}
 use Rattle.contract.specs.Definitions.Requests.{redrawn, editShape, edit}
 use Rattle.contract.specs.Definitions.Undo.{editOn, Named, back, bothOn, Undone}
 use Rattle.contract.specs.Laws.Tests.{edit-right}
 use Rattle.contract.specs.Laws.Refusals.{Passed, no-refusal, edit-passes}
-use Rattle.contract.specs.Laws.Drawing.{Good, redrawn-good}
+use Rattle.contract.specs.Laws.Drawing.{redrawn-good}
+use Rattle.contract.specs.Laws.Lawful.{done-unrefused}
 use Rattle.contract.specs.Laws.Calls.{lawful}
 use Rattle.contract.specs.Laws.Edits.{edit-shown, edit-done}
 use Rattle.contract.specs.Laws.Undo.{Back, edit-back, passes-back, redrawn-back, links-back}
-use Rattle.contract.specs.Theorems.Numbers.{done-unrefused}
 use Rattle.contract.specs.Theorems.Claim.{first-good, first-bytes}
 
 module _ (a b : List ℕ) (ha : Accepted a) (hb : Accepted b) (e : List ℕ) (bytes : Bytes e) (done : IsDone (editOn e (paired a b)))
