@@ -160,7 +160,7 @@ module _ (e : List ℕ) (A : List Node) (g : GoodNodes A) (p : Passes e A) (m : 
     back-move : kindOf e ≡ 3 → Back e (moveOf (masterOf e) v) A (amend (moved (editNode e .x) (editNode e .y)) (numberOf e) A)
     unfolding editNodes
     back-move k = back-amended f (moved (v .x) (v .y)) (λ u. refl) refl (omega arith) t (omega arith) (omega arith) refl fields
-        (ap (λ (u : Node). amend (moved (u .x) (u .y)) (numberOf (moveOf (masterOf e) v)) (amend f (v .number) A)) (t .node))
+        (ap (λ (u : Node). amend (moved (u .x) (u .y)) (numberOf (editBytes 3 (masterOf e) (resized 0 v))) (amend f (v .number) A)) (t .node))
       where
         f : Node → Node
         f = moved (editNode e .x) (editNode e .y)
@@ -168,13 +168,13 @@ module _ (e : List ℕ) (A : List Node) (g : GoodNodes A) (p : Passes e A) (m : 
         t : Made 3 (masterOf e) (resized 0 v)
         t = made 3 (masterOf e) (resized 0 v) fits (omega arith)
 
-        fields : editFields (moveOf (masterOf e) v) ≡ true
+        fields : editFields (editBytes 3 (masterOf e) (resized 0 v)) ≡ true
         fields = unfold editFields in rw (t .positions, t .capacity)
 
     back-capacity : kindOf e ≡ 4 → Back e (resizeOf (masterOf e) v) A (amend (resized (editNode e .capacity)) (numberOf e) A)
     unfolding editNodes
     back-capacity k = back-amended f (resized (v .capacity)) (λ u. refl) refl (omega arith) t (omega arith) (omega arith) refl fields
-        (ap (λ (u : Node). amend (resized (u .capacity)) (numberOf (resizeOf (masterOf e) v)) (amend f (v .number) A)) (t .node))
+        (ap (λ (u : Node). amend (resized (u .capacity)) (numberOf (editBytes 4 (masterOf e) (moved (pos 0) (pos 0) v))) (amend f (v .number) A)) (t .node))
       where
         f : Node → Node
         f = resized (editNode e .capacity)
@@ -182,7 +182,7 @@ module _ (e : List ℕ) (A : List Node) (g : GoodNodes A) (p : Passes e A) (m : 
         t : Made 4 (masterOf e) (moved (pos 0) (pos 0) v)
         t = made 4 (masterOf e) (moved (pos 0) (pos 0) v) bare (good .most)
 
-        fields : editFields (resizeOf (masterOf e) v) ≡ true
+        fields : editFields (editBytes 4 (masterOf e) (moved (pos 0) (pos 0) v)) ≡ true
         fields = unfold editFields positionsZero nodeBytes natAt natBytes in rw (t .capacity, capacity-good v good)
 
   back-kind : (¬ (kindOf e ≡ 1) → List·Memᴰ v A) → Kind e → Back e (back e v) A (editNodes e A)
