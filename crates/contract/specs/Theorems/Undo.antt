@@ -61,6 +61,7 @@ module _ (a b : List ℕ) (ha : Accepted a) (hb : Accepted b) (e : List ℕ) (by
   after : bothOn e v (paired a b) .held ≡ buffers (redrawn (back e v) (redrawn e d))
   after = ap (λ (h : Buffers). editOn (back e v) h .held) between ∙ ap (λ (o : Outcome). o .held) (edit-shown (redrawn e d) (back e v) master′ passes′ good′)
 
+  -- The edit back is done, and undoes e.
   pub undo : Undone e v (paired a b)
   unfolding buffers
   undo = record {
