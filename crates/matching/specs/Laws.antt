@@ -12,6 +12,7 @@ pub mod Steps
 pub mod Count
 pub mod Common
 pub mod Split
+pub mod Undo
 pub mod Without
 pub mod Amounts
 pub mod Columns

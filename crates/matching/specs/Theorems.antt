@@ -1,5 +1,6 @@
 -- What is proved of the join: docs/PROOFS.md lists the promises with their theorems.
 pub mod Join
+pub mod Some
 pub mod Amounts
 pub mod Query
 pub mod Copies
