@@ -17,4 +17,5 @@ pub mod Without
 pub mod Amounts
 pub mod Columns
 pub mod Rows
+pub mod Sets
 pub mod Spent

@@ -1,0 +1,18 @@
+// How much code works on at a time, for every crate above this one, as in specs/Definitions/Sizes.antt.
+// The most nodes of a master, and the most links of two masters.
+pub const NODES: usize = 512;
+
+pub const LINKS: usize = 1023;
+
+// The rows of both masters in one set: A's stand below HALF, B's from there on.
+pub const HALF: usize = 512;
+
+pub const ROWS: usize = 1024;
+
+// The rows of a block, and the blocks of the set.
+pub const BLOCK: usize = 32;
+
+pub const BLOCKS: usize = 32;
+
+// Node numbers are below this: a key is a distance times it, plus a number.
+pub const RANGE: u64 = 4294967296;
