@@ -1,33 +1,16 @@
--- The sizes that the join works with. No other file of this crate has these numbers.
+-- The sizes that the join works with, beside those of `matching`. No other file of this crate has these numbers.
 use Prim.Native.Nat.{ℕ}
-
--- The most nodes of a master, the rows of both masters, and the links that these can have.
-abbrev pub masterRows : ℕ
-masterRows = 512
-
-abbrev pub tableRows : ℕ
-tableRows = 1024
-
-abbrev pub linkRows : ℕ
-linkRows = 1023
+-- The most nodes of a master, the rows of both masters, the links that these can have, the rows of a block, the blocks of both, and
+-- what a key multiplies a distance by.
+pub use Rattle.matching.specs.Definitions.Sizes.{nodeRows as masterRows, setRows as tableRows, linkRows, blockRows, setBlocks as tableBlocks, numberRange}
 
 -- The places of a chain on which no row stands twice, with one to spare.
 abbrev pub chainRows : ℕ
 chainRows = 1025
 
--- The rows of a block, the blocks of a master, and those of both.
-abbrev pub blockRows : ℕ
-blockRows = 32
-
+-- The blocks of a master.
 abbrev pub masterBlocks : ℕ
 masterBlocks = 16
-
-abbrev pub tableBlocks : ℕ
-tableBlocks = 32
-
--- Numbers are below this: what a key multiplies a distance by.
-abbrev pub numberRange : ℕ
-numberRange = 4294967296
 
 -- Above every key.
 abbrev pub farKey : ℕ

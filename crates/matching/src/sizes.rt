@@ -1,4 +1,7 @@
 // How much code works on at a time, for every crate above this one, as in specs/Definitions/Sizes.antt.
+// The farthest position from 0, either way.
+pub const EDGE: i16 = 16384;
+
 // The most nodes of a master, and the most links of two masters.
 pub const NODES: usize = 512;
 

@@ -1,8 +1,8 @@
 // The sizes that a revision works with, as in specs/Sizes.antt. No other file of src/ has these numbers.
 // The rows of both masters, and the links they can have.
-pub const ROWS: usize = 1024;
+pub const ROWS: usize = matching::sizes::ROWS;
 
-pub const LINKS: usize = 1023;
+pub const LINKS: usize = matching::sizes::LINKS;
 
 // Rows that may be richer at one time, and turns that a run may take: past these a revision gives up.
 pub const RICH: usize = 64;
@@ -19,7 +19,7 @@ pub const WIDTH: u64 = 65536;
 pub const NONE: u64 = 18446744073709551615;
 
 // Rows to a block, and what is kept of each: the rows at its four edges, the one with the least number, and last its state.
-pub const BLOCK: usize = 32;
+pub const BLOCK: usize = matching::sizes::BLOCK;
 
 pub const EDGES: usize = 6;
 

@@ -9,12 +9,12 @@ pub const NODE_CAPACITY: usize = 6;
 
 pub const NODE: usize = 8;
 
-pub const NODES: usize = 512;
+pub const NODES: usize = matching::sizes::NODES;
 
 pub const TABLE: usize = 4096;
 
 // The ranges of its fields.
-pub const FARTHEST: i16 = 16384;
+pub const FARTHEST: i16 = matching::sizes::EDGE;
 
 pub const MOST: u32 = 64;
 
@@ -27,7 +27,7 @@ pub const LINK_AMOUNT: usize = 8;
 
 pub const LINK: usize = 10;
 
-pub const LINKS: usize = 1023;
+pub const LINKS: usize = matching::sizes::LINKS;
 
 pub const LIST: usize = 10230;
 

@@ -6,6 +6,7 @@ use lib.ListN.{length, getD}
 use lib.IntN.{ℤ, pos, _-ℤ_, natAbs}
 use Rattle.matching.specs.Definitions.Nodes.{Node}
 use Rattle.matching.specs.Definitions.Links.{Link}
+pub use Rattle.matching.specs.Definitions.Sizes.{edge, reach}
 
 -- f at the n places from k on.
 unfoldable pub tabulate : {X : Type 0} → (ℕ → X) → ℕ → ℕ → List X
@@ -32,17 +33,10 @@ unfoldable pub linksOf : List ℕ → List ℕ → List ℕ → List ℕ → ℕ
 unfolding tabulate
 linksOf la lb ld lm n = tabulate (linkAt la lb ld lm) 0 n
 
--- Where code works: positions are from -16,384 to 16,384,
-abbrev pub edge : ℕ
-edge = 16384
-
+-- Where code works: positions are within the edge,
 abbrev pub Inside : ℤ → ℤ → Type 0
 Inside x y = (natAbs x ≤ edge) × (natAbs y ≤ edge)
 
--- so that differences are from -32,768 to 32,768,
-abbrev pub reach : ℕ
-reach = 32768
-
--- and the squared distance fits four bytes.
+-- so that differences are within reach, and the squared distance fits four bytes.
 abbrev pub Reach : ℤ → ℤ → ℤ → ℤ → Type 0
 Reach x y u v = (natAbs (x -ℤ u) ≤ reach) × (natAbs (y -ℤ v) ≤ reach)

@@ -1,6 +1,13 @@
 -- How much code works on at a time, for every crate above this one. src/sizes.rt has the same numbers.
 use Prim.Native.Nat.{ℕ}
 
+-- Positions are from -16,384 to 16,384, and so differences from -32,768 to 32,768.
+abbrev pub edge : ℕ
+edge = 16384
+
+abbrev pub reach : ℕ
+reach = 32768
+
 -- The most nodes of a master, and the most links of two masters.
 abbrev pub nodeRows : ℕ
 nodeRows = 512

@@ -1,5 +1,7 @@
 -- The widths, offsets and counts of document 01, 'Rows and buffers', in bytes and rows. No other file of specs/ has these numbers.
 use Prim.Native.Nat.{ℕ, _+_, _*_, _^_}
+use Rattle.matching.specs.Definitions.Sizes.{edge}
+pub use Rattle.matching.specs.Definitions.Sizes.{nodeRows, linkRows}
 
 -- Fields.
 abbrev pub numberSize : ℕ
@@ -25,7 +27,7 @@ abbrev pub numberEnd : ℕ
 numberEnd = 256 ^ numberSize
 
 abbrev pub farthest : ℕ
-farthest = 16384
+farthest = edge
 
 abbrev pub most : ℕ
 most = 64
@@ -43,9 +45,6 @@ nodeCapacity = nodeY + positionSize
 abbrev pub nodeSize : ℕ
 nodeSize = nodeCapacity + capacitySize
 
-abbrev pub nodeRows : ℕ
-nodeRows = 512
-
 abbrev pub tableSize : ℕ
 tableSize = nodeSize * nodeRows
 
@@ -61,9 +60,6 @@ linkAmount = linkDistance + distanceSize
 
 abbrev pub linkSize : ℕ
 linkSize = linkAmount + amountSize
-
-abbrev pub linkRows : ℕ
-linkRows = 1023
 
 abbrev pub listSize : ℕ
 listSize = linkSize * linkRows
