@@ -31,14 +31,14 @@ fn grow(b: [i16; 4], p: [i16; 2]) -> [i16; 4]
     ]
 }
 
-// The box around the positions of the rows from first to end.
+// The box around the positions of the rows from first to end. The first is looked at twice, so that LLVM reads a block in whole vectors.
 pub fn around(at: &[[i16; 2]], first: usize, end: usize) -> [i16; 4]
     requires { ⌜ (first < end) × (end ≤ length (now at)) × ((k : ℕ) → first ≤ k → k < end → Inside (xAt (now at) k) (yAt (now at) k)) ⌝ }
     ensures { λ r. ⌜ Around (now (at .entry)) first end r ⌝ }
 {
     let p = at[first];
     let mut b = [p[0], p[0], p[1], p[1]];
-    let mut k = first + 1;
+    let mut k = first;
     while k < end {
         let next = grow(b, at[k]);
         b = next;

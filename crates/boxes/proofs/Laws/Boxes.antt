@@ -7,7 +7,6 @@ use native.Mathlib.Nat.{mul-le-mul}
 use native.Mathlib.Omega.{arith}
 use lib.IntN.{ℤ}
 use lib.ListN.{getD}
-use lib.Signed.{≤ℤ-refl}
 use Rattle.matching.specs.Definitions.Pairs.{squaredDistance}
 use Rattle.matching.specs.Definitions.Columns.{edge, Inside}
 use Rattle.matching.specs.Definitions.Rows.{across, upward, xAt, yAt}
@@ -15,6 +14,7 @@ use Rattle.matching.specs.Laws.Distance.{inside-reach, distance-fits}
 use Rattle.boxes.specs.Boxes.{west, east, south, north, In, Inner, Around, Clear, Gap, Clamped, Nearest, Least, Greatest, Grown}
 use Rattle.boxes.proofs.Laws.Places.{le-then, between-near, reaches}
 
+-- Clamped along each axis is nearest.
 pub nearest : (p b : List ℤ) (x y : ℤ) → Clamped (across p) (west b) (east b) x → Clamped (upward p) (south b) (north b) y → Nearest p b (x ∷ y ∷ [])
 nearest p b x y h k = record {
   inside = λ i n. (h .small edge (i .0) (n .0 .0) (n .1 .0), k .small edge (i .1) (n .0 .1) (n .1 .1));
@@ -22,7 +22,10 @@ nearest p b x y h k = record {
 }
 
 -- The position nearest to p is as far from it as the box.
-pub clear : (p b q : List ℤ) (d : ℕ) → Inside (across p) (upward p) → Inner b → Nearest p b q → d ≡ squaredDistance (across p) (upward p) (across q) (upward q) → Clear p b d
+pub clear :
+    (p b q : List ℤ) (d : ℕ) → Inside (across p) (upward p) → Inner b → Nearest p b q →
+    d ≡ squaredDistance (across p) (upward p) (across q) (upward q) →
+    Clear p b d
 clear p b q d h k m e = record {
   small = rw e (distance-fits (across p) (upward p) (across q) (upward q) (inside-reach (across p) (upward p) (across q) (upward q) h (m .inside h k)));
   nearest = λ u v i.
@@ -42,7 +45,12 @@ apart b c q d m k = record {
       omega (arith, k .nearest (f .at) (g .at) n, mul-le-mul (f .away) (f .away), mul-le-mul (g .away) (g .away));
 }
 
-pub grown : (b p : List ℤ) (w e s n : ℤ) → Least (west b) (across p) w → Greatest (east b) (across p) e → Least (south b) (upward p) s → Greatest (north b) (upward p) n → Grown b p (w ∷ e ∷ s ∷ n ∷ [])
+-- A box grows by each of its edges.
+pub grown :
+    (b p : List ℤ) (w e s n : ℤ) →
+    Least (west b) (across p) w → Greatest (east b) (across p) e →
+    Least (south b) (upward p) s → Greatest (north b) (upward p) n →
+    Grown b p (w ∷ e ∷ s ∷ n ∷ [])
 grown b p w e s n hw he hs hn = record {
   inner = λ i k.
       ((hw .small edge (i .0 .0) (k .0), hs .small edge (i .0 .1) (k .1)), (he .small edge (i .1 .0) (k .0), hn .small edge (i .1 .1) (k .1)));
@@ -55,15 +63,10 @@ grown b p w e s n hw he hs hn = record {
   here = record { west = hw .second; east = he .second; south = hs .second; north = hn .second };
 }
 
--- The box around one row, and around one more.
+-- The box around no rows yet, and around one more.
 module _ (at : List (List ℤ)) (k : ℕ) (h : Inside (xAt at k) (yAt at k)) where
-  pub around-one : Around at k (k + 1) (xAt at k ∷ xAt at k ∷ yAt at k ∷ yAt at k ∷ [])
-  around-one = record {
-    inner = (h, h);
-    holds = λ i a b.
-        let e : i ≡ k = omega arith in
-        rw e (record { west = ≤ℤ-refl (xAt at k); east = ≤ℤ-refl (xAt at k); south = ≤ℤ-refl (yAt at k); north = ≤ℤ-refl (yAt at k) });
-  }
+  pub around-none : Around at k k (xAt at k ∷ xAt at k ∷ yAt at k ∷ yAt at k ∷ [])
+  around-none = record { inner = (h, h); holds = λ i a b. absurd (omega arith) }
 
   pub around-more : (first : ℕ) (b r : List ℤ) → Around at first k b → Grown b (getD at k []) r → Around at first (k + 1) r
   around-more first b r a g = record { inner = g .inner (a .inner) h; holds = λ i l m. go i l m (ℕ-discrete i k) }

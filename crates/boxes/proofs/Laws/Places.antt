@@ -9,7 +9,7 @@ use lib.Dec.{leb→le, le→leb}
 use lib.IntN.{ℤ, pos, negsuc, subℕ, _-ℤ_, natAbs}
 use lib.Signed.{mag, ltZ, _≤ℤ_, ≤ℤ-refl, ltZ-yes, ltZ-no, <ℤ-≤ℤ-trans, clashℤ}
 use mir.Syntax.{w16}
-use mir.Val.{toZ, ofZ}
+use mir.Val.{toZ, ofZ, SFits}
 use mir.Facts.{toZ-ofZ}
 use borrow.Author.Needs.{sfits-of}
 use borrow.Author.Tests.{lt-ltb, le-ltb, ltb-true}
@@ -19,22 +19,27 @@ use Rattle.boxes.specs.Boxes.{Between, Clamped}
 pub held : (z : ℤ) → mag z < 32768 → toZ w16 (ofZ w16 z) ≡ z
 held z h = toZ-ofZ (sfits-of h)
 
--- What a test of two positions says.
-pub le-lt : (x y : ℤ) → ltZ x y ≡ true → x ≤ℤ y
+-- Less is at most.
+le-lt : (x y : ℤ) → ltZ x y ≡ true → x ≤ℤ y
 le-lt (pos a) (pos b) h = record { le = le→leb a b (omega (arith, ltb-true a b h)) }
 le-lt (pos a) (negsuc b) h = absurd (let e : _≡_ {A = ℕ} 0 1 = cc in omega arith)
 le-lt (negsuc a) (pos b) h = record { le = tt }
 le-lt (negsuc a) (negsuc b) h = record { le = le→leb b a (omega (arith, ltb-true b a h)) }
 
-pub le-not : (x y : ℤ) → ltZ x y ≡ false → y ≤ℤ x
-le-not x y h = ltZ-no (rw h tt)
+-- What a test of two positions says, as code makes it.
+module _ {x y : ℤ} (f : SFits w16 x) (g : SFits w16 y) where
+  pub less : ltZ (toZ w16 (ofZ w16 x)) (toZ w16 (ofZ w16 y)) ≡ true → x ≤ℤ y
+  less h = le-lt x y (rw (toZ-ofZ f, toZ-ofZ g) at h)
+
+  pub not-less : ltZ (toZ w16 (ofZ w16 x)) (toZ w16 (ofZ w16 y)) ≡ false → y ≤ℤ x
+  not-less h = ltZ-no (rw (rw (toZ-ofZ f, toZ-ofZ g) at h) tt)
 
 pub le-then : (x y z : ℤ) → x ≤ℤ y → y ≤ℤ z → x ≤ℤ z
 le-then x y z h k = go (ltZ z x) refl
   where
     go : (t : Bool) → ltZ z x ≡ t → x ≤ℤ z
     go true e = clashℤ (<ℤ-≤ℤ-trans (ltZ-yes (rw e tt)) h) k
-    go false e = le-not z x e
+    go false e = ltZ-no (rw e tt)
 
 -- Of two positions one is at most the other.
 either : (x y : ℤ) → (x ≤ℤ y) ⊎ (y ≤ℤ x)
@@ -42,7 +47,7 @@ either x y = go (ltZ x y) refl
   where
     go : (t : Bool) → ltZ x y ≡ t → (x ≤ℤ y) ⊎ (y ≤ℤ x)
     go true e = inl (le-lt x y e)
-    go false e = inr (le-not x y e)
+    go false e = inr (ltZ-no (rw e tt))
 
 -- A position on a scale whose zero is at n.
 abbrev place : ℕ → ℤ → ℕ
@@ -72,25 +77,24 @@ abs-place n (negsuc a) (pos (suc b)) h k = omega arith
 abs-place n (negsuc a) (negsuc b) h k = omega (arith, abs-sub (suc b) (suc a))
 
 -- Of three positions the middle one is nearer to either end than the other end is.
-module _ (p q u : ℤ) where
-  pub between-near : Between p q u → (natAbs (p -ℤ q) ≤ natAbs (p -ℤ u)) × (natAbs (q -ℤ u) ≤ natAbs (p -ℤ u))
-  between-near h = go h
-    where
-      n : ℕ
-      n = natAbs p + natAbs q + natAbs u
+pub between-near : (p q u : ℤ) → Between p q u → (natAbs (p -ℤ q) ≤ natAbs (p -ℤ u)) × (natAbs (q -ℤ u) ≤ natAbs (p -ℤ u))
+between-near p q u h = go h
+  where
+    n : ℕ
+    n = natAbs p + natAbs q + natAbs u
 
-      pq : natAbs (p -ℤ q) ≡ (place n p - place n q) + (place n q - place n p)
-      pq = abs-place n p q (omega arith) (omega arith)
+    pq : natAbs (p -ℤ q) ≡ (place n p - place n q) + (place n q - place n p)
+    pq = abs-place n p q (omega arith) (omega arith)
 
-      qu : natAbs (q -ℤ u) ≡ (place n q - place n u) + (place n u - place n q)
-      qu = abs-place n q u (omega arith) (omega arith)
+    qu : natAbs (q -ℤ u) ≡ (place n q - place n u) + (place n u - place n q)
+    qu = abs-place n q u (omega arith) (omega arith)
 
-      pu : natAbs (p -ℤ u) ≡ (place n p - place n u) + (place n u - place n p)
-      pu = abs-place n p u (omega arith) (omega arith)
+    pu : natAbs (p -ℤ u) ≡ (place n p - place n u) + (place n u - place n p)
+    pu = abs-place n p u (omega arith) (omega arith)
 
-      go : Between p q u → (natAbs (p -ℤ q) ≤ natAbs (p -ℤ u)) × (natAbs (q -ℤ u) ≤ natAbs (p -ℤ u))
-      go (inl h) = (omega (arith, pq, pu, le-place n p q (h .0), le-place n q u (h .1)), omega (arith, qu, pu, le-place n p q (h .0), le-place n q u (h .1)))
-      go (inr h) = (omega (arith, pq, pu, le-place n u q (h .0), le-place n q p (h .1)), omega (arith, qu, pu, le-place n u q (h .0), le-place n q p (h .1)))
+    go : Between p q u → (natAbs (p -ℤ q) ≤ natAbs (p -ℤ u)) × (natAbs (q -ℤ u) ≤ natAbs (p -ℤ u))
+    go (inl h) = omega (arith, pq, qu, pu, le-place n p q (h .0), le-place n q u (h .1))
+    go (inr h) = omega (arith, pq, qu, pu, le-place n u q (h .0), le-place n q p (h .1))
 
 -- The three answers of a clamp.
 module _ (p low high : ℤ) where

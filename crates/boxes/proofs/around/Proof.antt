@@ -1,17 +1,17 @@
 -- `boxes::around` meets its contract: the box stands around the rows passed. Assumes nothing.
-use Prim.Native.Nat.{ℕ, _-_, _≤_, _<_}
-use borrow.Author.Needs.{needs}
-use native.Mathlib.Omega.{arith}
+use Prim.Native.Nat.{_-_, _≤_}
 use mathlib.Core.Path.{_≡_}
+use native.Mathlib.Omega.{arith}
+use borrow.Author.Needs.{needs}
 use Rattle.matching.specs.Definitions.Rows.{xAt, yAt}
 use Rattle.matching.specs.Laws.Sets.{inside-back}
 use Rattle.boxes.specs.Boxes.{Around}
-use Rattle.boxes.proofs.Laws.Boxes.{around-one, around-more}
+use Rattle.boxes.proofs.Laws.Boxes.{around-none, around-more}
 use Rattle.boxes.proofs.around.Statement.{statement}
 use Rattle.boxes.proofs.around.Tie as tie
 
 abbrev Inv-loop : tie.InvT-loop
-Inv-loop at first end b₀ k₀ b k = (first < k) × (k ≤ end) × Around at first k b
+Inv-loop at first end b₀ k₀ b k = (first ≤ k) × (k ≤ end) × Around at first k b
 
 abbrev μ-loop : tie.MeasureT-loop
 μ-loop at first end b₀ k₀ b k = end - k
@@ -34,16 +34,13 @@ array-copy-out-t19 c = search needs
 array-copy-out-t22 : tie.Need-array-copy-out-t22 Inv-loop μ-loop
 array-copy-out-t22 c = search needs
 
-add-k : tie.Need-add-k Inv-loop μ-loop
-add-k c = search needs
-
 loop-holds : tie.Need-loop-holds Inv-loop μ-loop
 loop-holds c =
     let start = c .before .before .before .before .before in
     let at = start .args .at .now in
     let first = start .args .first in
     let h = start .pre .2 first (omega arith) (start .pre .0) in
-    (omega arith, omega arith, rw (inside-back (xAt at first) (h .0), inside-back (yAt at first) (h .1)) (around-one at first h))
+    (omega arith, omega arith, rw (inside-back (xAt at first) (h .0), inside-back (yAt at first) (h .1)) (around-none at first h))
 
 mul-grow : tie.Need-mul-grow Inv-loop μ-loop
 mul-grow c = search needs
@@ -54,8 +51,8 @@ shared-slice-copy-out-grow c = search needs
 grow-requires : tie.Need-grow-requires Inv-loop μ-loop
 grow-requires c κs = search needs
 
-add-k-2 : tie.Need-add-k-2 Inv-loop μ-loop
-add-k-2 c = search needs
+add-k : tie.Need-add-k Inv-loop μ-loop
+add-k c = search needs
 
 loop-less : tie.Need-loop-less Inv-loop μ-loop
 loop-less c = search needs
@@ -84,12 +81,11 @@ around-spec =
     array-copy-out-t16
     array-copy-out-t19
     array-copy-out-t22
-    add-k
     loop-holds
     mul-grow
     shared-slice-copy-out-grow
     grow-requires
-    add-k-2
+    add-k
     loop-less
     loop-again
     returns)

@@ -18,9 +18,7 @@ nearest-requires c κs = search needs
 
 -- the position in the first box
 near : (c : tie.After-nearest) → let s = c .before .before .before .args in Nearest (west (s .t2) ∷ south (s .t2) ∷ []) (s .b) (c .nearest .result)
-near c =
-    let s = c .before .before .before .args in
-    rw (held (west (s .t2)) (c .before .before .t7 .given), held (south (s .t2)) (c .before .t10 .given)) at (c .nearest .ensures)
+near c = simp (held, c .before .before .t7 .given, c .before .t10 .given) at (c .nearest .ensures)
 
 clearance-requires : tie.Need-clearance-requires
 clearance-requires c κs = let h = c .before .before .before .pre in (near c .inside (h .1 .0) (h .0), h .1)

@@ -1,7 +1,5 @@
 -- `boxes::grow` meets its contract: each edge goes as far as the position. Assumes nothing.
 use borrow.Author.Needs.{needs}
-use Rattle.matching.specs.Definitions.Rows.{across, upward}
-use Rattle.boxes.specs.Boxes.{west, east, south, north}
 use Rattle.boxes.proofs.Laws.Places.{held}
 use Rattle.boxes.proofs.Laws.Boxes.{grown}
 use Rattle.boxes.proofs.grow.Statement.{statement}
@@ -48,13 +46,11 @@ returns c =
     let c3 = c .before .before .before in
     let c2 = c3 .before .before .before in
     let c1 = c2 .before .before .before in
-    let b = c1 .before .before .before .args .t1 in
-    let p = c1 .before .before .before .args .t2 in
-    let w = rw (held (west b) (c1 .before .before .lesser-arg .given), held (across p) (c1 .before .lesser-arg2 .given)) at (c1 .lesser .ensures) in
-    let e = rw (held (east b) (c2 .before .before .greater-arg .given), held (across p) (c2 .before .greater-arg2 .given)) at (c2 .greater .ensures) in
-    let s = rw (held (south b) (c3 .before .before .lesser-arg3 .given), held (upward p) (c3 .before .lesser-arg4 .given)) at (c3 .lesser2 .ensures) in
-    let n = rw (held (north b) (c .before .before .greater-arg3 .given), held (upward p) (c .before .greater-arg4 .given)) at (c .greater2 .ensures) in
-    rw (held (c1 .lesser .result) (c1 .lesser .ok), held (c2 .greater .result) (c2 .greater .ok), held (c3 .lesser2 .result) (c3 .lesser2 .ok), held (c .greater2 .result) (c .greater2 .ok)) (grown b p _ _ _ _ w e s n)
+    let w = simp (held, c1 .before .before .lesser-arg .given, c1 .before .lesser-arg2 .given) at (c1 .lesser .ensures) in
+    let e = simp (held, c2 .before .before .greater-arg .given, c2 .before .greater-arg2 .given) at (c2 .greater .ensures) in
+    let s = simp (held, c3 .before .before .lesser-arg3 .given, c3 .before .lesser-arg4 .given) at (c3 .lesser2 .ensures) in
+    let n = simp (held, c .before .before .greater-arg3 .given, c .before .greater-arg4 .given) at (c .greater2 .ensures) in
+    simp (held, c1 .lesser .ok, c2 .greater .ok, c3 .lesser2 .ok, c .greater2 .ok) (grown _ _ _ _ _ _ w e s n)
 
 pub grow-spec : {M : Type 1} → statement M
 grow-spec =

@@ -1,7 +1,5 @@
 -- `boxes::nearest` meets its contract: along each axis the coordinate is clamped. Assumes nothing.
 use borrow.Author.Needs.{needs}
-use Rattle.matching.specs.Definitions.Rows.{across, upward}
-use Rattle.boxes.specs.Boxes.{west, east, south, north}
 use Rattle.boxes.proofs.Laws.Places.{held}
 use Rattle.boxes.proofs.Laws.Boxes.{nearest}
 use Rattle.boxes.proofs.nearest.Statement.{statement}
@@ -33,13 +31,12 @@ clamp-requires-2 c κs = search needs
 
 returns : tie.Need-returns
 returns c =
-    let first = c .before .before .before .before in
-    let start = first .before .before .before .before in
-    let p = start .args .t1 in
-    let b = start .args .t2 in
-    let x = rw (held (across p) (first .before .before .before .clamp-arg .given), held (west b) (first .before .before .clamp-arg2 .given), held (east b) (first .before .clamp-arg3 .given)) at (first .clamp .ensures) in
-    let y = rw (held (upward p) (c .before .before .before .clamp-arg4 .given), held (south b) (c .before .before .clamp-arg5 .given), held (north b) (c .before .clamp-arg6 .given)) at (c .clamp2 .ensures) in
-    rw (held (first .clamp .result) (first .clamp .ok), held (c .clamp2 .result) (c .clamp2 .ok)) (nearest p b _ _ x y)
+    let c1 = c .before .before .before .before in
+    let a = c1 .before in
+    let b = c .before in
+    let x = simp (held, a .before .before .clamp-arg .given, a .before .clamp-arg2 .given, a .clamp-arg3 .given) at (c1 .clamp .ensures) in
+    let y = simp (held, b .before .before .clamp-arg4 .given, b .before .clamp-arg5 .given, b .clamp-arg6 .given) at (c .clamp2 .ensures) in
+    simp (held, c1 .clamp .ok, c .clamp2 .ok) (nearest _ _ _ _ x y)
 
 pub nearest-spec : {M : Type 1} → statement M
 nearest-spec =
