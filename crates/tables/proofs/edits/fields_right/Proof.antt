@@ -1,5 +1,5 @@
 -- `tables::edits::fields_right` meets its contract: each arm is that of its change. Assumes nothing.
-use mathlib.Core.Path.{refl, _∙_}
+use mathlib.Core.Path.{_∙_}
 use borrow.Author.Needs.{needs}
 use Rattle.tables.specs.declared.edits.Change.the-variants.{Arrival, Departure, Move, Capacity}
 use Rattle.tables.specs.Laws.Changes.{both-taken, both-left, fields-change}
@@ -42,51 +42,45 @@ positions-zero-requires-2 c κs = search needs
 capacity-good-requires-2 : tie.Need-capacity-good-requires-2
 capacity-good-requires-2 c κs = search needs
 
-enum-told-5 : tie.Need-enum-told-5
-enum-told-5 c = search needs
-
 returns : tie.Need-returns
 returns c =
     let arm = c .before .before .before in
-    both-taken (c .before .if1 .taken) (c .before .before .positions-good .ensures) (c .capacity-good .ensures) ∙ fields-change Arrival _ (arm .before .before .before .pre .1) (arm .enum-told .given .1) refl
+    both-taken (c .before .if1 .taken) (c .before .before .positions-good .ensures) (c .capacity-good .ensures) ∙ fields-change Arrival _ (arm .before .before .before .pre .1) (arm .enum-told .given .1)
 
 returns-2 : tie.Need-returns-2
 returns-2 c =
     let arm = c .before .before in
-    both-left _ (c .if1 .left) (c .before .positions-good .ensures) ∙ fields-change Arrival _ (arm .before .before .before .pre .1) (arm .enum-told .given .1) refl
+    both-left _ (c .if1 .left) (c .before .positions-good .ensures) ∙ fields-change Arrival _ (arm .before .before .before .pre .1) (arm .enum-told .given .1)
 
 returns-3 : tie.Need-returns-3
 returns-3 c =
     let arm = c .before .before .before in
-    both-taken (c .before .if2 .taken) (c .before .before .positions-zero .ensures) (c .capacity-zero .ensures) ∙ fields-change Departure _ (arm .before .before .before .pre .1) (arm .enum-told2 .given .1) refl
+    both-taken (c .before .if2 .taken) (c .before .before .positions-zero .ensures) (c .capacity-zero .ensures) ∙ fields-change Departure _ (arm .before .before .before .pre .1) (arm .enum-told2 .given .1)
 
 returns-4 : tie.Need-returns-4
 returns-4 c =
     let arm = c .before .before in
-    both-left _ (c .if2 .left) (c .before .positions-zero .ensures) ∙ fields-change Departure _ (arm .before .before .before .pre .1) (arm .enum-told2 .given .1) refl
+    both-left _ (c .if2 .left) (c .before .positions-zero .ensures) ∙ fields-change Departure _ (arm .before .before .before .pre .1) (arm .enum-told2 .given .1)
 
 returns-5 : tie.Need-returns-5
 returns-5 c =
     let arm = c .before .before .before in
-    both-taken (c .before .if3 .taken) (c .before .before .positions-good2 .ensures) (c .capacity-zero2 .ensures) ∙ fields-change Move _ (arm .before .before .before .pre .1) (arm .enum-told3 .given .1) refl
+    both-taken (c .before .if3 .taken) (c .before .before .positions-good2 .ensures) (c .capacity-zero2 .ensures) ∙ fields-change Move _ (arm .before .before .before .pre .1) (arm .enum-told3 .given .1)
 
 returns-6 : tie.Need-returns-6
 returns-6 c =
     let arm = c .before .before in
-    both-left _ (c .if3 .left) (c .before .positions-good2 .ensures) ∙ fields-change Move _ (arm .before .before .before .pre .1) (arm .enum-told3 .given .1) refl
+    both-left _ (c .if3 .left) (c .before .positions-good2 .ensures) ∙ fields-change Move _ (arm .before .before .before .pre .1) (arm .enum-told3 .given .1)
 
 returns-7 : tie.Need-returns-7
 returns-7 c =
     let arm = c .before .before .before in
-    both-taken (c .before .if4 .taken) (c .before .before .positions-zero2 .ensures) (c .capacity-good2 .ensures) ∙ fields-change Capacity _ (arm .before .before .before .pre .1) (arm .enum-told4 .given .1) refl
+    both-taken (c .before .if4 .taken) (c .before .before .positions-zero2 .ensures) (c .capacity-good2 .ensures) ∙ fields-change Capacity _ (arm .before .before .before .pre .1) (arm .enum-told4 .given .1)
 
 returns-8 : tie.Need-returns-8
 returns-8 c =
     let arm = c .before .before in
-    both-left _ (c .if4 .left) (c .before .positions-zero2 .ensures) ∙ fields-change Capacity _ (arm .before .before .before .pre .1) (arm .enum-told4 .given .1) refl
-
-returns-9 : tie.Need-returns-9
-returns-9 c = search needs
+    both-left _ (c .if4 .left) (c .before .positions-zero2 .ensures) ∙ fields-change Capacity _ (arm .before .before .before .pre .1) (arm .enum-told4 .given .1)
 
 pub fields-right-spec : {M : Type 1} → statement M
 fields-right-spec =
@@ -104,7 +98,6 @@ fields-right-spec =
     enum-told-4
     positions-zero-requires-2
     capacity-good-requires-2
-    enum-told-5
     returns
     returns-2
     returns-3
@@ -112,5 +105,4 @@ fields-right-spec =
     returns-5
     returns-6
     returns-7
-    returns-8
-    returns-9)
+    returns-8)
