@@ -40,8 +40,8 @@ stack: $(archive)
 
 ## The archive as it stands, for the gate.
 stack-run:
-	@mkdir -p target
-	@g++ -std=c++17 -O2 -Wall -Wextra -Werror -pedantic -Iinclude rust/bench/stack.cpp $(archive) -pthread -o target/stack
+	@tools/interface
+	@g++ -std=c++17 -O2 -Wall -Wextra -Werror -pedantic -Iinclude -Icpp -Itarget/interface rust/bench/stack.cpp $(archive) -pthread -o target/stack
 	@target/stack
 
 edits:
