@@ -8,7 +8,8 @@ ROOT = pathlib.Path(__file__).resolve().parent.parent
 CRATES = ROOT / "crates"
 NAME = r'[^\s(){}.;,@"«»]+'
 HEAD = re.compile(rf"(?:(abbrev|unfoldable) )?(pub )?(?:(record|data) ({NAME})|({NAME}) :(?= |$))")
-USE = re.compile(rf"(?:ghost )?use ([^\s{{;]+?)(?:\.\{{(.*)\}}| as ({NAME}))?;?$")
+MODULE = re.compile(r"(?:pub )?(?:module|mutual)\b")
+USE = re.compile(rf"(?:pub |ghost )?use ([^\s{{;]+?)(?:\.\{{(.*)\}}| as ({NAME}))?;?$")
 LABEL = re.compile(rf"(^|[{{;])\s*{NAME}(?= = )")
 WORD = re.compile(rf"(?<![^\s(){{}};,@])({NAME})((?:\.{NAME})*)")
 
@@ -16,6 +17,11 @@ WORD = re.compile(rf"(?<![^\s(){{}};,@])({NAME})((?:\.{NAME})*)")
 def cited(text):
     """The words of a line but for labels (`name = `) and fields (` .name`), each with the one after its dot."""
     return [(word, rest[1:].split(".")[0]) for word, rest in WORD.findall(LABEL.sub(r"\1", text))]
+
+
+def parts(name):
+    """The words by which a name is cited: itself, and those of an operator."""
+    return [name] + [part for part in name.split("_") if part and part != name]
 
 
 class Declaration:
@@ -46,7 +52,7 @@ class File:
             self.words += words
             if path.suffix == ".rt":
                 continue
-            if indent < level or indent == level and (head or text.startswith("module ")):
+            if indent < level or indent == level and (head or MODULE.match(text)):
                 inside = None
                 modules = [module for module in modules if module[0] < indent]
             if inside:
@@ -56,7 +62,7 @@ class File:
             elif head:
                 inside, level = Declaration(number, head, [word for _, some in modules for word in some] + words), indent
                 self.declarations.append(inside)
-            elif text.startswith("module "):
+            elif MODULE.match(text):
                 modules.append((indent, words))
                 level = indent + 1
             elif modules:  # the parameters of a module go on
@@ -68,7 +74,8 @@ class File:
             module, names, alias = use.groups()
             for each in re.split(r", *", names or ""):
                 name, _, other = each.partition(" as ")
-                self.names[other or name] = (module, name)
+                for word in parts(other or name):
+                    self.names[word] = (module, name)
             self.modules[alias or module] = module
         return use
 
