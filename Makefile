@@ -4,7 +4,7 @@
 # make bench         whole calls timed beside two peers in safe Rust; ONLY=edit picks the calls with that in their name
 # make stack         the stack that each call uses at 512 x 512 nodes; fails at 128 KB
 # make edits         the must-fail edits that the gate leaves out for time
-# make fuzz          the five calls beside the model on fresh seeds, for SECONDS=n (60)
+# make fuzz          the calls beside the model on fresh seeds, for SECONDS=n (60)
 # make fuzz-guided   the same, led by the model's coverage (libFuzzer), for SECONDS=n
 # make install       archive, headers, CMake and pkg-config files to PREFIX (/usr/local), below DESTDIR
 # make pictures      draws docs/pictures from what the engine gives
@@ -40,8 +40,8 @@ stack: $(archive)
 
 ## The archive as it stands, for the gate.
 stack-run:
-	@mkdir -p target
-	@g++ -std=c++17 -O2 -Wall -Wextra -Werror -pedantic -Iinclude rust/bench/stack.cpp $(archive) -pthread -o target/stack
+	@tools/interface
+	@g++ -std=c++17 -O2 -Wall -Wextra -Werror -pedantic -Iinclude -Icpp -Itarget/interface rust/bench/stack.cpp $(archive) -pthread -o target/stack
 	@target/stack
 
 edits:
@@ -51,7 +51,8 @@ fuzz: $(archive)
 	@FUZZ_SECONDS=$(SECONDS) cargo test --release --offline --manifest-path rust/differential/Cargo.toml --test calls fuzz -- --ignored --nocapture
 
 # What the archive is made of; a proof is part of it, since without one there is no archive.
-$(archive): $(shell find crates/matching crates/bounds crates/space crates/tables crates/join crates/verify crates/revise crates/contract crates/pairing -name '*.rt' -o -name '*.antt')
+crates = $(addprefix crates/,$(shell tools/crates pairing))
+$(archive): $(shell find $(crates) -name '*.rt' -o -name '*.antt')
 	@rt staticlib pairing
 
 into = $(DESTDIR)$(PREFIX)

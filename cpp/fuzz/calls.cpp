@@ -1,22 +1,20 @@
-// Fuzz target: the engine's five calls beside the model's (rust/fuzz), on drawings, damage and calls that the input
-// asks for. A difference in an answer, in a lent byte or in one that is not lent ends the program.
+// Fuzz target: the engine's calls beside the model's (rust/fuzz), on drawings, damage and calls that the input asks for. A
+// difference in an answer, in a lent byte or in one that is not lent ends the program.
+#include "interface.hpp"
 #include "pairing.hpp"
 
 #include <algorithm>
+#include <array>
 #include <cstdio>
 #include <cstdlib>
 #include <iterator>
+#include <string>
 
-extern "C" {
-decltype(pairing_pair) model_pair;
-decltype(pairing_step) model_step;
-decltype(pairing_edit) model_edit;
-decltype(pairing_spare) model_spare;
-decltype(pairing_bands) model_bands;
-}
+extern "C" std::uint32_t model_call(const char *name, const interface::Lent *lent, const std::uint64_t *numbers);
 
 namespace {
 
+using interface::Name;
 using pairing::Edit;
 using pairing::Kind;
 using pairing::Master;
@@ -38,7 +36,8 @@ private:
     const std::uint8_t *at_, *end_;
 };
 
-// The buffers of a call, each with bytes around it that are never lent, or only where a buffer is lent too long.
+// The tables, the list, and the edit or the counts, each with bytes around it that are never lent, or only where a buffer
+// is lent too long.
 constexpr std::size_t margin = 32;
 constexpr std::size_t stated[] = {PAIRING_TABLE_BYTES, PAIRING_TABLE_BYTES, PAIRING_LIST_BYTES, PAIRING_COUNTS_BYTES};
 constexpr std::size_t starts[] = {margin, 3 * margin + stated[0], 5 * margin + stated[0] + stated[1],
@@ -48,47 +47,31 @@ struct Memory {
     std::uint8_t *buffer(std::size_t which) { return bytes + starts[which]; }
 };
 
-// A set of the five calls.
-struct Side {
-    decltype(&pairing_pair) pair;
-    decltype(&pairing_step) step;
-    decltype(&pairing_edit) edit;
-    decltype(&pairing_spare) spare;
-    decltype(&pairing_bands) bands;
+struct Place {
+    const char *name;
+    std::size_t which, size;
 };
-constexpr Side engine = {pairing_pair, pairing_step, pairing_edit, pairing_spare, pairing_bands};
-constexpr Side model = {model_pair, model_step, model_edit, model_spare, model_bands};
+constexpr Place places[] = {{"a", 0, PAIRING_TABLE_BYTES},
+                            {"b", 1, PAIRING_TABLE_BYTES},
+                            {"list", 2, PAIRING_LIST_BYTES},
+                            {"edit", 3, PAIRING_EDIT_BYTES},
+                            {"counts", 3, PAIRING_COUNTS_BYTES}};
 
-enum class What { pair, step, edit, spare, bands };
-
-struct Call {
-    What what;
-    std::size_t sizes[4];
-    std::uint8_t master;
-    std::uint16_t number;
-};
-
-std::uint32_t run(const Side &side, const Call &call, Memory &memory) {
-    const auto &size = call.sizes;
-    std::uint8_t *a = memory.buffer(0), *b = memory.buffer(1), *list = memory.buffer(2), *other = memory.buffer(3);
-    switch (call.what) {
-        case What::pair: return side.pair(a, size[0], b, size[1], list, size[2]);
-        case What::step: return side.step(a, size[0], b, size[1], list, size[2]);
-        case What::edit: return side.edit(a, size[0], b, size[1], list, size[2], other, size[3]);
-        case What::spare: return side.spare(a, size[0], b, size[1], list, size[2], call.master, call.number);
-        case What::bands: return side.bands(a, size[0], b, size[1], list, size[2], other, size[3]);
-    }
+// Where a buffer of this name stands, and its stated size.
+const Place &place_of(const std::string &name) {
+    for (const Place &place : places)
+        if (place.name == name) return place;
+    std::fprintf(stderr, "no place for a buffer of the name %s\n", name.c_str());
     std::abort();
 }
 
 // How often each call was done (number 0) or refused with which number; told at the end.
 struct Tally {
-    long times[5][PAIRING_REFUSED_FULL + 1] = {};
+    std::vector<std::array<long, PAIRING_REFUSED_FULL + 1>> times{interface::calls.size()};
 
     ~Tally() {
-        const char *const names[] = {"pair", "step", "edit", "spare", "bands"};
-        for (std::size_t k = 0; k < 5; ++k) {
-            std::fprintf(stderr, "%s by refusal number:", names[k]);
+        for (std::size_t k = 0; k < times.size(); ++k) {
+            std::fprintf(stderr, "%s by refusal number:", interface::calls[k].text);
             for (const long count : times[k]) std::fprintf(stderr, " %ld", count);
             std::fprintf(stderr, "\n");
         }
@@ -104,50 +87,70 @@ public:
         static const int scales[] = {1, 9, 128, 129};
         scale_ = scales[input_.below(4)];
         for (const std::size_t master : {0u, 1u}) fill(master, 12 - input_.below(13), input_);
-        call(What::pair);
+        call(Name::pair);
     }
 
     void play() {
         for (int turn = 0; turn < 40 && input_.more(); ++turn) {
-            switch (input_.below(14)) {
-                case 1: call(What::pair); break;
-                case 2: call(What::step); break;
-                case 3: raw_edit(); break;
-                case 4: spare(); break;
-                case 5: bands(); break;
-                case 6: damage(); break;
-                case 7: now_ = sound_; break;
-                case 8: length_ = {input_.below(4), input_.below(2 * margin)}; break;
-                case 9: more_nodes(); break;
+            const std::size_t way = input_.below(9 + interface::calls.size());
+            if (way >= 9) {
+                make(interface::calls[way - 9].name);
+                continue;
+            }
+            switch (way) {
+                case 1: damage(); break;
+                case 2: now_ = sound_; break;
+                case 3: length_ = {input_.below(4), input_.below(2 * margin)}; break;
+                case 4: more_nodes(); break;
                 default: edit(some_edit()); break;
             }
         }
     }
 
 private:
-    // Runs a call on both sides, and goes on from what they agree on.
-    void call(What what, std::uint8_t master = 0, std::uint16_t number = 0) {
-        Call call = {what, {stated[0], stated[1], stated[2], stated[3]}, master, number};
-        if (what == What::edit) call.sizes[3] = PAIRING_EDIT_BYTES;
-        if (length_.by > 0) {
-            std::size_t &size = call.sizes[length_.which];
-            // From a margin more down; a few of them far too short.
-            size = size + margin > length_.by * 3 ? size + margin - length_.by * 3 : 0;
+    // A call with what the input has for it.
+    void make(Name name) {
+        switch (name) {
+            case Name::pair:
+            case Name::step: call(name); break;
+            case Name::edit: raw_edit(); break;
+            case Name::spare: spare(); break;
+            case Name::bands: bands(); break;
         }
+    }
+
+    std::vector<interface::Lent> lend(const interface::Call &call, Memory &memory) const {
+        std::vector<interface::Lent> lent;
+        for (const interface::Buffer &buffer : call.buffers) {
+            auto [name, which, size] = place_of(buffer.name);
+            // From a margin more down; a few of them far too short.
+            if (length_.by > 0 && length_.which == which)
+                size = size + margin > length_.by * 3 ? size + margin - length_.by * 3 : 0;
+            lent.push_back({memory.buffer(which), size});
+        }
+        return lent;
+    }
+
+    // Runs a call on both sides, and goes on from what they agree on.
+    void call(Name name, const std::vector<std::uint64_t> &numbers = {}) {
+        const auto place = static_cast<std::size_t>(name);
+        const interface::Call &call = interface::calls[place];
+        if (numbers.size() != call.numbers.size()) std::abort();
         Memory other = now_;
-        const std::uint32_t right = run(model, call, other), answer = run(engine, call, now_);
+        const std::uint32_t right = model_call(call.text, lend(call, other).data(), numbers.data());
+        const std::uint32_t answer = call.make(lend(call, now_).data(), numbers.data());
         const auto differs = std::mismatch(std::begin(now_.bytes), std::end(now_.bytes), other.bytes);
         const bool same = differs.first == std::end(now_.bytes);
         if (answer != right || !same) {
-            std::fprintf(stderr, "call %d answers %x, the model %x; ", static_cast<int>(what), answer, right);
+            std::fprintf(stderr, "%s answers %x, the model %x; ", call.text, answer, right);
             if (same) std::fprintf(stderr, "no byte differs\n");
             else std::fprintf(stderr, "byte %td is %d, the model's %d\n", differs.first - now_.bytes, *differs.first,
                               *differs.second);
             std::abort();
         }
         const std::uint32_t refusal = PAIRING_REFUSAL(answer);
-        ++tally.times[static_cast<int>(what)][refusal];
-        if (refusal == PAIRING_DONE && (what == What::pair || what == What::edit)) sound_ = now_;
+        ++tally.times[place][refusal];
+        if (refusal == PAIRING_DONE && (name == Name::pair || name == Name::edit)) sound_ = now_;
         // Damage is mended after two calls, or all later ones would only see that.
         const bool hurt = refusal >= PAIRING_REFUSED_TABLE_A && refusal <= PAIRING_REFUSED_UNFINISHED;
         if (hurt && ++hurts_ % 2 == 0) now_ = sound_;
@@ -200,40 +203,40 @@ private:
             Input from(many, sizeof many);
             fill(byte % 2, PAIRING_TABLE_ROWS, from);
             full_ = true;
-            call(What::pair);
+            call(Name::pair);
             // One more than there is room for.
             edit(Edit::arrival(static_cast<Master>(byte % 2), Node(input_.word(), 0, 0, PAIRING_CAPACITY_MAX)));
         }
-        call(What::pair);
+        call(Name::pair);
     }
 
     Edit some_edit() {
         const auto kind = static_cast<Kind>(1 + input_.below(4));
         const std::size_t master = input_.below(2);
         const int number = kind == Kind::arrival ? 0xffff - input_.word() : some_number(master);
-        const bool places = kind == Kind::arrival || kind == Kind::move;
-        const int x = places ? position(input_) : 0, y = places ? position(input_) : 0;
+        const bool placed = kind == Kind::arrival || kind == Kind::move;
+        const int x = placed ? position(input_) : 0, y = placed ? position(input_) : 0;
         const bool sized = kind == Kind::arrival || kind == Kind::capacity;
         return {kind, static_cast<Master>(master), number, x, y, sized ? capacity(input_) : 0};
     }
     void edit(const Edit &edit) {
         std::copy(edit.bytes().begin(), edit.bytes().end(), now_.buffer(3));
-        call(What::edit);
+        call(Name::edit);
     }
     void raw_edit() {
         for (std::size_t k = 0; k < PAIRING_EDIT_BYTES; ++k) now_.buffer(3)[k] = input_.byte();
         // Kinds and masters near the right ones.
         now_.buffer(3)[0] %= 8;
         now_.buffer(3)[1] %= 4;
-        call(What::edit);
+        call(Name::edit);
     }
     void spare() {
         const std::uint8_t master = input_.byte() % 3;
-        call(What::spare, master, some_number(master % 2));
+        call(Name::spare, {master, some_number(master % 2)});
     }
     void bands() {
         std::fill_n(now_.buffer(3), PAIRING_COUNTS_BYTES, input_.byte());
-        call(What::bands);
+        call(Name::bands);
     }
 
     // The list zero from a row on, a row for another, or a byte of a row. Rows near the last in use are the likely ones.

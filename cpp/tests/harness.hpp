@@ -2,6 +2,7 @@
 #ifndef HARNESS_HPP
 #define HARNESS_HPP
 
+#include "interface.hpp"
 #include "pairing.hpp"
 
 #include <string>
@@ -30,6 +31,8 @@ bool pointers_valid();
 // Where the replay program stands; empty where none is given.
 extern std::string replay;
 
+using Memory = std::vector<std::uint8_t>;
+
 // Buffers of E7: two nodes each, three links.
 struct World {
     pairing::Table a, b;
@@ -38,20 +41,21 @@ struct World {
 };
 World e7();
 pairing::Node node(int number, int horizontal, int vertical, int capacity = 1);
-std::vector<std::uint8_t> copy(pairing::ConstBytes bytes);
+Memory copy(pairing::ConstBytes bytes);
 bool is(const pairing::Outcome &outcome, pairing::Refusal refusal, std::uint32_t value);
 bool is_done(const pairing::Outcome &outcome, std::uint32_t value);
 
-// A call with its buffers in order, so that a test can go over all of them. Its other arguments are good ones.
+// A call with its buffers in order, so that a test can go over all of them: good bytes for each, its stated size, and
+// whether it is written.
 struct Call {
-    const char *name;
+    interface::Name name;
+    std::vector<Memory> lent;
     std::vector<std::size_t> sizes;
     std::vector<bool> written;
-    pairing::Outcome (*run)(const std::vector<pairing::Bytes> &);
+    // Through the wrapper. Its other arguments are good ones.
+    pairing::Outcome run(const std::vector<pairing::Bytes> &views) const;
 };
 const std::vector<Call> &calls();
-// The world's buffers as the call takes them, and a good edit.
-std::vector<std::vector<std::uint8_t>> buffers(const Call &call);
 
 }  // namespace harness
 

@@ -8,16 +8,18 @@ using namespace pairing;
 using harness::Call;
 using harness::is;
 using harness::is_done;
+using harness::Memory;
 using harness::node;
 using harness::World;
+using interface::Name;
 
 namespace {
 
 // Runs each call on buffers that `damage` has changed.
-void every_call(const std::function<void(std::vector<std::vector<std::uint8_t>> &)> &damage,
+void every_call(const std::function<void(std::vector<Memory> &)> &damage,
                 const std::function<void(const Call &, const Outcome &)> &judge) {
     for (const Call &call : harness::calls()) {
-        auto own = harness::buffers(call);
+        auto own = call.lent;
         damage(own);
         const auto before = own;
         const Outcome outcome = call.run({own.begin(), own.end()});
@@ -26,8 +28,8 @@ void every_call(const std::function<void(std::vector<std::vector<std::uint8_t>> 
     }
 }
 
-bool checks_list(const Call &call) { return call.name != std::string("pair"); }
-bool needs_finished(const Call &call) { return checks_list(call) && call.name != std::string("step"); }
+bool checks_list(const Call &call) { return call.name != Name::pair; }
+bool needs_finished(const Call &call) { return checks_list(call) && call.name != Name::step; }
 
 // Edits of E7's finished drawing, each refused.
 void refused(const Edit &wrong, Refusal refusal) {
@@ -42,18 +44,16 @@ void refused(const Edit &wrong, Refusal refusal) {
 TEST(every_call_done) {
     every_call([](auto &) {},
                [](const Call &call, const Outcome &outcome) {
-                   const std::string name = call.name;
                    // Pair: three links. A 1 moves closest to B 2: no row is kept. A 1 has nothing left.
-                   CHECK(is_done(outcome, name == "pair" ? 3 : 0));
+                   CHECK(is_done(outcome, call.name == Name::pair ? 3 : 0));
                });
 }
 
 TEST(refused_length) {
-    for (std::size_t place = 0; place < 4; ++place)
-        for (const int more : {-1, 1})
-            for (const Call &call : harness::calls()) {
-                if (place >= call.sizes.size()) continue;
-                auto own = harness::buffers(call);
+    for (const Call &call : harness::calls())
+        for (std::size_t place = 0; place < call.sizes.size(); ++place)
+            for (const int more : {-1, 1}) {
+                auto own = call.lent;
                 own[place].resize(call.sizes[place] + static_cast<std::size_t>(more));
                 const auto before = own;
                 CHECK(is(call.run({own.begin(), own.end()}), Refusal::length, 0));

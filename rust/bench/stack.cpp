@@ -1,4 +1,4 @@
-// The stack that each of the five calls uses at 512 x 512 nodes. A thread makes the call on memory painted beforehand;
+// The stack that each call uses at 512 x 512 nodes. A thread makes the call on memory painted beforehand;
 // counted is from the frame that makes it down to the deepest byte written. A call fails at LIMIT bytes or more, or
 // where it was never done. The last line is "N passed, M failed".
 #include <pthread.h>
@@ -8,9 +8,11 @@
 #include <cstdio>
 #include <cstdlib>
 #include <cstring>
+#include <map>
+#include <string>
 #include <vector>
 
-#include "pairing.h"
+#include "interface.hpp"
 
 #ifndef LIMIT
 #define LIMIT (128 * 1024)
@@ -20,60 +22,44 @@ namespace {
 
 using Bytes = std::vector<uint8_t>;
 
-struct Lent {
-    Bytes a, b, list, edit, counts;
+// What a call is lent and given, by the parameter's name in pairing.h.
+struct Drawing {
+    std::map<std::string, Bytes> buffers;
+    std::map<std::string, uint64_t> numbers;
 };
 
-using Call = uint32_t (*)(Lent &);
-
-struct Named {
-    const char *name;
-    Call call;
-};
-
-const Named calls[] = {
-    {"Pair",
-     [](Lent &l) {
-         return pairing_pair(l.a.data(), l.a.size(), l.b.data(), l.b.size(), l.list.data(), l.list.size());
-     }},
-    {"Step",
-     [](Lent &l) {
-         return pairing_step(l.a.data(), l.a.size(), l.b.data(), l.b.size(), l.list.data(), l.list.size());
-     }},
-    {"Edit",
-     [](Lent &l) {
-         return pairing_edit(l.a.data(), l.a.size(), l.b.data(), l.b.size(), l.list.data(), l.list.size(),
-                             l.edit.data(), l.edit.size());
-     }},
-    {"Spare",
-     [](Lent &l) {
-         const uint16_t number = l.b[0] + 256 * l.b[1];
-         return pairing_spare(l.a.data(), l.a.size(), l.b.data(), l.b.size(), l.list.data(), l.list.size(),
-                              PAIRING_MASTER_B, number);
-     }},
-    {"Bands",
-     [](Lent &l) {
-         return pairing_bands(l.a.data(), l.a.size(), l.b.data(), l.b.size(), l.list.data(), l.list.size(),
-                              l.counts.data(), l.counts.size());
-     }},
-};
-
-[[noreturn]] void give_up(const char *why) {
-    std::fprintf(stderr, "stack: %s\n", why);
+[[noreturn]] void give_up(const std::string &why) {
+    std::fprintf(stderr, "stack: %s\n", why.c_str());
     std::exit(1);
 }
 
+template <class Value>
+Value &named(std::map<std::string, Value> &all, const char *name) {
+    const auto found = all.find(name);
+    if (found == all.end()) give_up(std::string("no value for the parameter ") + name);
+    return found->second;
+}
+
 struct Run {
-    Call call;
-    Lent *lent;
-    uint32_t answer;
-    const uint8_t *frame;
+    Run(const interface::Call &of, Drawing &drawing) : call(of) {
+        for (const interface::Buffer &buffer : call.buffers) {
+            Bytes &bytes = named(drawing.buffers, buffer.name);
+            lent.push_back({bytes.data(), bytes.size()});
+        }
+        for (const char *number : call.numbers) numbers.push_back(named(drawing.numbers, number));
+    }
+
+    const interface::Call &call;
+    std::vector<interface::Lent> lent;
+    std::vector<uint64_t> numbers;
+    uint32_t answer = 0;
+    const uint8_t *frame = nullptr;
 };
 
 void *make_call(void *argument) {
     auto *run = static_cast<Run *>(argument);
     run->frame = static_cast<const uint8_t *>(__builtin_frame_address(0));
-    run->answer = run->call(*run->lent);
+    run->answer = run->call.make(run->lent.data(), run->numbers.data());
     return nullptr;
 }
 
@@ -124,30 +110,32 @@ Bytes table(unsigned seed, unsigned nodes) {
 }
 
 // Two masters, an edit of the node in A's last row that is right for them, and their finished list.
-Lent drawing(uint8_t kind) {
+Drawing drawing(uint8_t kind) {
     const bool arrival = kind == PAIRING_KIND_ARRIVAL;
     const bool placed = arrival || kind == PAIRING_KIND_MOVE;
     const bool capacity = arrival || kind == PAIRING_KIND_CAPACITY;
-    Lent lent{table(1, PAIRING_TABLE_ROWS - arrival), table(2, PAIRING_TABLE_ROWS), Bytes(PAIRING_LIST_BYTES),
-              Bytes(PAIRING_EDIT_BYTES), Bytes(PAIRING_COUNTS_BYTES)};
-    lent.edit[0] = kind;
-    put(lent.edit, 2, number(PAIRING_TABLE_ROWS - 1));
-    put(lent.edit, 4, placed ? 7 : 0);
-    put(lent.edit, 6, placed ? 8 : 0);
-    put(lent.edit, 8, capacity ? 9 : 0);
-    calls[0].call(lent);
-    return lent;
+    Bytes a = table(1, PAIRING_TABLE_ROWS - arrival), b = table(2, PAIRING_TABLE_ROWS);
+    Bytes list(PAIRING_LIST_BYTES), edit(PAIRING_EDIT_BYTES), counts(PAIRING_COUNTS_BYTES);
+    edit[0] = kind;
+    put(edit, 2, number(PAIRING_TABLE_ROWS - 1));
+    put(edit, 4, placed ? 7 : 0);
+    put(edit, 6, placed ? 8 : 0);
+    put(edit, 8, capacity ? 9 : 0);
+    pairing_pair(a.data(), a.size(), b.data(), b.size(), list.data(), list.size());
+    return {{{"a", a}, {"b", b}, {"list", list}, {"edit", edit}, {"counts", counts}},
+            {{"master", PAIRING_MASTER_B}, {"number", number(0)}}};
 }
 
 // Every kind of edit, each with the finished list, with half of it, and with one that has a wrong row.
-std::vector<Lent> drawings() {
-    std::vector<Lent> all;
+std::vector<Drawing> drawings() {
+    std::vector<Drawing> all;
     const size_t row = PAIRING_LINK_BYTES * (PAIRING_TABLE_ROWS / 2);
     for (uint8_t kind = PAIRING_KIND_ARRIVAL; kind <= PAIRING_KIND_CAPACITY; kind++) {
-        const Lent finished = drawing(kind);
-        Lent half = finished, wrong = finished;
-        std::fill(half.list.begin() + row, half.list.end(), 0);
-        wrong.list[row + PAIRING_LINK_BYTES - 2] ^= 1;
+        const Drawing finished = drawing(kind);
+        Drawing half = finished, wrong = finished;
+        Bytes &list = half.buffers["list"];
+        std::fill(list.begin() + row, list.end(), 0);
+        wrong.buffers["list"][row + PAIRING_LINK_BYTES - 2] ^= 1;
         all.insert(all.end(), {finished, half, wrong});
     }
     return all;
@@ -156,22 +144,22 @@ std::vector<Lent> drawings() {
 }  // namespace
 
 int main() {
-    const std::vector<Lent> all = drawings();
+    const std::vector<Drawing> all = drawings();
     int passed = 0, failed = 0;
-    for (const Named &named : calls) {
+    for (const interface::Call &call : interface::calls) {
         size_t most = 0;
         int done = 0;
-        for (const Lent &lent : all) {
+        for (const Drawing &drawing : all) {
             // Two colours, since a call may write a byte of one.
             for (uint8_t paint : {0x5a, 0xa5}) {
-                Lent own = lent;
-                Run run{named.call, &own, 0, nullptr};
+                Drawing own = drawing;
+                Run run(call, own);
                 most = std::max(most, used(run, paint));
                 done += PAIRING_REFUSAL(run.answer) == PAIRING_DONE;
             }
         }
         const bool good = done > 0 && most < LIMIT;
-        std::printf("%-5s %7zu bytes of stack, limit %d%s\n", named.name, most, LIMIT, good ? "" : ": failed");
+        std::printf("%-5s %7zu bytes of stack, limit %d%s\n", call.text, most, LIMIT, good ? "" : ": failed");
         (good ? passed : failed)++;
     }
     std::printf("%d passed, %d failed\n", passed, failed);

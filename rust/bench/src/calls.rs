@@ -1,15 +1,37 @@
-//! Any set of the five calls on bytes: the archive's, or a peer's.
+//! Any set of the calls on bytes: the archive's, the model's, or a peer's.
 
-use model::engine::{Buffers, Request};
+use interface::{calls, slice};
+use model::engine::{Buffers, Engine, Request};
+
+macro_rules! declare {
+    ($call:ident [$($buffer:ident: $how:ident),*] ($($number:ident: $type:ty),*)) => {
+        fn $call(&mut self, $($buffer: slice!($how),)* $($number: $type),*) -> u32;
+    };
+}
 
 pub trait Calls {
-    fn pair(&mut self, a: &[u8], b: &[u8], list: &mut [u8]) -> u32;
-    fn step(&mut self, a: &[u8], b: &[u8], list: &mut [u8]) -> u32;
-    fn edit(&mut self, a: &mut [u8], b: &mut [u8], list: &mut [u8], edit: &[u8]) -> u32;
-    fn spare(&mut self, a: &[u8], b: &[u8], list: &[u8], master: u8, number: u16) -> u32;
-    fn bands(&mut self, a: &[u8], b: &[u8], list: &[u8], counts: &mut [u8]) -> u32;
+    calls!(declare);
+}
 
-    /// The call that is asked for, on these buffers.
+macro_rules! pass_on {
+    ($call:ident [$($buffer:ident: $how:ident),*] ($($number:ident: $type:ty),*)) => {
+        fn $call(&mut self, $($buffer: slice!($how),)* $($number: $type),*) -> u32 {
+            Engine::$call(self, $($buffer,)* $($number),*)
+        }
+    };
+}
+
+/// An engine keeps nothing between calls.
+impl<E: Engine> Calls for E {
+    calls!(pass_on);
+}
+
+/// Who makes the call that is asked for, on these buffers.
+pub trait Caller {
+    fn run(&mut self, request: &Request, lent: &mut Buffers) -> u32;
+}
+
+impl<C: Calls> Caller for C {
     fn run(&mut self, request: &Request, lent: &mut Buffers) -> u32 {
         let Buffers { a, b, list, counts } = lent;
         match request {

@@ -2,8 +2,8 @@
 //!
 //! - [`shapes`]: the families of drawings that are timed.
 //! - [`cases`]: the calls that are timed, and what they are lent.
-//! - [`calls`]: a set of the five calls; [`archive`] is the engine's.
-//! - [`peer`]: the five calls in safe Rust, over a method of joining, checking and revising.
+//! - [`calls`]: a set of the calls, the engine's or a peer's.
+//! - [`peer`]: the calls in safe Rust, over a method of joining, checking and revising.
 //! - [`same`]: the engine's own method, once more: [`order`], [`blocks`], [`chain`], [`check`], [`revise`].
 //! - [`sorted`]: the plain way, all pairs sorted, to check a list and to make one.
 //! - [`bytes`]: tables to nodes and links to a list, as both peers do it.
@@ -12,7 +12,6 @@
 //! - [`report`], [`aims`]: the tables, and what was to be reached.
 
 pub mod aims;
-pub mod archive;
 pub mod blocks;
 pub mod bytes;
 pub mod calls;

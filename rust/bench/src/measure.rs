@@ -1,10 +1,10 @@
 //! The engine and its peers by turns on the same calls: timed, and every answer and byte compared.
 
+use differential::Archive;
 use model::engine::Buffers;
 use model::generate::random::Random;
 
-use crate::archive::Archive;
-use crate::calls::Calls;
+use crate::calls::Caller;
 use crate::cases::{Call, Case};
 use crate::clock::now;
 use crate::peer::Peer;
@@ -75,7 +75,7 @@ const NAMES: [&str; 3] = ["the engine", "the same method", "the plain way"];
 
 pub struct Bench {
     /// The engine, the same method, the plain way.
-    callers: [Box<dyn Calls>; 3],
+    callers: [Box<dyn Caller>; 3],
 }
 
 impl Default for Bench {
@@ -86,7 +86,7 @@ impl Default for Bench {
 }
 
 impl Bench {
-    pub fn new(callers: [Box<dyn Calls>; 3]) -> Bench {
+    pub fn new(callers: [Box<dyn Caller>; 3]) -> Bench {
         Bench { callers }
     }
 

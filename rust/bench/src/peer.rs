@@ -1,5 +1,6 @@
-//! The five calls in safe Rust, over any method of joining, of checking a list and of revising it.
+//! The calls in safe Rust, over any method of joining, of checking a list and of revising it.
 
+use interface::{calls, slice};
 use model::answer::{answer, Refusal};
 use model::rows::{capacity_in_range, position_in_range, Edit};
 use model::sizes::*;
@@ -40,9 +41,24 @@ pub trait Method: Default {
     }
 }
 
-/// Every buffer is kept between calls.
 #[derive(Default)]
-pub struct Peer<M> {
+pub struct Peer<M>(Kept<M>);
+
+macro_rules! answer_call {
+    ($call:ident [$($buffer:ident: $how:ident),*] ($($number:ident: $type:ty),*)) => {
+        fn $call(&mut self, $($buffer: slice!($how),)* $($number: $type),*) -> u32 {
+            answer(self.0.$call($($buffer,)* $($number),*))
+        }
+    };
+}
+
+impl<M: Method> Calls for Peer<M> {
+    calls!(answer_call);
+}
+
+/// What is kept between calls: every buffer.
+#[derive(Default)]
+struct Kept<M> {
     method: M,
     masters: [Master; 2],
     links: Vec<Link>,
@@ -50,15 +66,15 @@ pub struct Peer<M> {
     known: Vec<u16>,
 }
 
-impl<M: Method> Peer<M> {
-    fn try_pair(&mut self, a: &[u8], b: &[u8], list: &mut [u8]) -> Result<u64, Refusal> {
+impl<M: Method> Kept<M> {
+    fn pair(&mut self, a: &[u8], b: &[u8], list: &mut [u8]) -> Result<u64, Refusal> {
         self.tables(a, b, list, true)?;
         self.method.join(&self.masters, &mut self.links);
         write_from(list, &self.links, 0);
         Ok(self.links.len() as u64)
     }
 
-    fn try_step(&mut self, a: &[u8], b: &[u8], list: &mut [u8]) -> Result<u64, Refusal> {
+    fn step(&mut self, a: &[u8], b: &[u8], list: &mut [u8]) -> Result<u64, Refusal> {
         self.tables(a, b, list, true)?;
         match self.list(list) {
             Ok(()) => Ok(0),
@@ -70,7 +86,7 @@ impl<M: Method> Peer<M> {
         }
     }
 
-    fn try_edit(
+    fn edit(
         &mut self,
         a: &mut [u8],
         b: &mut [u8],
@@ -99,9 +115,10 @@ impl<M: Method> Peer<M> {
         Ok(kept as u64)
     }
 
-    fn try_spare(
+    fn spare(
         &mut self,
-        [a, b]: [&[u8]; 2],
+        a: &[u8],
+        b: &[u8],
         list: &[u8],
         master: u8,
         number: u16,
@@ -121,7 +138,7 @@ impl<M: Method> Peer<M> {
         Ok(u64::from(nodes.nodes[place].left - taken))
     }
 
-    fn try_bands(
+    fn bands(
         &mut self,
         a: &[u8],
         b: &[u8],
@@ -222,27 +239,5 @@ fn change(table: &mut [u8], edit: &Edit, row: usize) {
             NODE_VERTICAL.write_signed(&mut table[start..end], edit.vertical);
         }
         _ => NODE_CAPACITY.write(&mut table[start..end], edit.capacity),
-    }
-}
-
-impl<M: Method> Calls for Peer<M> {
-    fn pair(&mut self, a: &[u8], b: &[u8], list: &mut [u8]) -> u32 {
-        answer(self.try_pair(a, b, list))
-    }
-
-    fn step(&mut self, a: &[u8], b: &[u8], list: &mut [u8]) -> u32 {
-        answer(self.try_step(a, b, list))
-    }
-
-    fn edit(&mut self, a: &mut [u8], b: &mut [u8], list: &mut [u8], edit: &[u8]) -> u32 {
-        answer(self.try_edit(a, b, list, edit))
-    }
-
-    fn spare(&mut self, a: &[u8], b: &[u8], list: &[u8], master: u8, number: u16) -> u32 {
-        answer(self.try_spare([a, b], list, master, number))
-    }
-
-    fn bands(&mut self, a: &[u8], b: &[u8], list: &[u8], counts: &mut [u8]) -> u32 {
-        answer(self.try_bands(a, b, list, counts))
     }
 }

@@ -1,6 +1,6 @@
 //! The timed calls are what their names say.
 
-use bench::calls::Calls;
+use bench::calls::Caller;
 use bench::cases::{Call, Case, CALLS, EDITS};
 use bench::peer::Peer;
 use bench::same::Same;

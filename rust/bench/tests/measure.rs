@@ -1,13 +1,13 @@
 //! A run fails where an answer or a byte differs, whoever is wrong.
 
-use bench::archive::Archive;
-use bench::calls::Calls;
+use bench::calls::Caller;
 use bench::cases::{Call, CALLS};
 use bench::measure::Bench;
 use bench::peer::Peer;
 use bench::same::Same;
 use bench::shapes::{Class, Count, Shape};
 use bench::sorted::Sorted;
+use differential::Archive;
 use model::engine::{Buffers, Request};
 use model::generate::drawing::Capacities;
 
@@ -17,27 +17,7 @@ struct Wrong {
     slip: fn(&mut u32, &mut Buffers),
 }
 
-impl Calls for Wrong {
-    fn pair(&mut self, a: &[u8], b: &[u8], list: &mut [u8]) -> u32 {
-        self.peer.pair(a, b, list)
-    }
-
-    fn step(&mut self, a: &[u8], b: &[u8], list: &mut [u8]) -> u32 {
-        self.peer.step(a, b, list)
-    }
-
-    fn edit(&mut self, a: &mut [u8], b: &mut [u8], list: &mut [u8], edit: &[u8]) -> u32 {
-        self.peer.edit(a, b, list, edit)
-    }
-
-    fn spare(&mut self, a: &[u8], b: &[u8], list: &[u8], master: u8, number: u16) -> u32 {
-        self.peer.spare(a, b, list, master, number)
-    }
-
-    fn bands(&mut self, a: &[u8], b: &[u8], list: &[u8], counts: &mut [u8]) -> u32 {
-        self.peer.bands(a, b, list, counts)
-    }
-
+impl Caller for Wrong {
     fn run(&mut self, request: &Request, lent: &mut Buffers) -> u32 {
         let mut answer = self.peer.run(request, lent);
         (self.slip)(&mut answer, lent);
@@ -79,8 +59,8 @@ fn the_three_agree() {
 fn a_slip_ends_the_run() {
     for slip in SLIPS {
         for place in 0..3 {
-            let right = || -> Box<dyn Calls> { Box::new(Peer::<Sorted>::default()) };
-            let mut callers: [Box<dyn Calls>; 3] = [Box::new(Archive), right(), right()];
+            let right = || -> Box<dyn Caller> { Box::new(Peer::<Sorted>::default()) };
+            let mut callers: [Box<dyn Caller>; 3] = [Box::new(Archive), right(), right()];
             callers[place] = Box::new(Wrong {
                 peer: Peer::default(),
                 slip,

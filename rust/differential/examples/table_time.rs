@@ -2,7 +2,8 @@
 
 use std::time::Instant;
 
-use differential::pair;
+use differential::Archive;
+use model::engine::Engine;
 use model::generate::drawing::{Drawing, Size};
 use model::generate::random::Random;
 use model::sizes::{LIST_BYTES, TABLE_BYTES};
@@ -15,7 +16,7 @@ fn main() {
     for _ in 0..200 {
         let start = Instant::now();
         for _ in 0..100 {
-            std::hint::black_box(pair(std::hint::black_box(&table), &empty, &mut list));
+            std::hint::black_box(Archive.pair(std::hint::black_box(&table), &empty, &mut list));
         }
         best = best.min(start.elapsed().as_secs_f64() / 100.0);
     }

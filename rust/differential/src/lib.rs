@@ -1,90 +1,47 @@
 //! The engine's exported calls. Their buffers, answers and refusals stand in include/pairing.h.
 
-/// The five calls as the archive has them. Each buffer is a pointer and a length; a written one overlaps no other.
+use interface::{calls, slice};
+use model::engine::Engine;
+
+/// The calls as the archive has them. Each buffer is a pointer and a length; a written one overlaps no other.
 pub mod exported {
+    use interface::{calls, pointer};
+
+    macro_rules! declare {
+        ($call:ident [$($buffer:ident: $how:ident),*] ($($number:ident: $type:ty),*)) => {
+            #[link_name = concat!("pairing_", stringify!($call))]
+            pub fn $call($($buffer: pointer!($how), _: usize,)* $($number: $type),*) -> u32;
+        };
+    }
+
     extern "C" {
-        pub fn pairing_pair(
-            a: *const u8,
-            a_len: usize,
-            b: *const u8,
-            b_len: usize,
-            list: *mut u8,
-            list_len: usize,
-        ) -> u32;
-
-        pub fn pairing_step(
-            a: *const u8,
-            a_len: usize,
-            b: *const u8,
-            b_len: usize,
-            list: *mut u8,
-            list_len: usize,
-        ) -> u32;
-
-        pub fn pairing_edit(
-            a: *mut u8,
-            a_len: usize,
-            b: *mut u8,
-            b_len: usize,
-            list: *mut u8,
-            list_len: usize,
-            edit: *const u8,
-            edit_len: usize,
-        ) -> u32;
-
-        pub fn pairing_spare(
-            a: *const u8,
-            a_len: usize,
-            b: *const u8,
-            b_len: usize,
-            list: *const u8,
-            list_len: usize,
-            master: u8,
-            number: u16,
-        ) -> u32;
-
-        pub fn pairing_bands(
-            a: *const u8,
-            a_len: usize,
-            b: *const u8,
-            b_len: usize,
-            list: *const u8,
-            list_len: usize,
-            counts: *mut u8,
-            counts_len: usize,
-        ) -> u32;
+        calls!(declare);
     }
 }
 
-/// Pair: the whole list, or a refusal.
-pub fn pair(a: &[u8], b: &[u8], list: &mut [u8]) -> u32 {
-    // Any lengths and any bytes will do; the slices are valid for the call, and
-    // the list, being borrowed mutably, overlaps neither table.
-    unsafe {
-        exported::pairing_pair(
-            a.as_ptr(),
-            a.len(),
-            b.as_ptr(),
-            b.len(),
-            list.as_mut_ptr(),
-            list.len(),
-        )
-    }
+macro_rules! address {
+    ($buffer:ident: read) => {
+        $buffer.as_ptr()
+    };
+    ($buffer:ident: write) => {
+        $buffer.as_mut_ptr()
+    };
 }
 
-/// Edit: a table and the list as the edit leaves them, or a refusal.
-pub fn edit(a: &mut [u8], b: &mut [u8], list: &mut [u8], edit: &[u8]) -> u32 {
-    // As above: all three that are written are borrowed mutably, so that no two overlap.
-    unsafe {
-        exported::pairing_edit(
-            a.as_mut_ptr(),
-            a.len(),
-            b.as_mut_ptr(),
-            b.len(),
-            list.as_mut_ptr(),
-            list.len(),
-            edit.as_ptr(),
-            edit.len(),
-        )
-    }
+macro_rules! make {
+    ($call:ident [$($buffer:ident: $how:ident),*] ($($number:ident: $type:ty),*)) => {
+        fn $call(&self, $($buffer: slice!($how),)* $($number: $type),*) -> u32 {
+            // Any lengths and any bytes will do; the slices are valid for the call, and what is written, being
+            // borrowed mutably, overlaps nothing else.
+            unsafe { exported::$call($(address!($buffer: $how), $buffer.len(),)* $($number),*) }
+        }
+    };
+}
+
+/// The archive's calls on slices.
+#[derive(Clone, Copy, Debug)]
+pub struct Archive;
+
+impl Engine for Archive {
+    calls!(make);
 }

@@ -1,6 +1,6 @@
 //! Masters in opposite corners of the field: differences of 32,768, which two bytes do not hold, and those next to it.
 
-use differential::{edit, pair};
+use differential::Archive;
 use model::buffers::{links_of, table_of};
 use model::engine::{Engine, Model};
 use model::rows::{Edit, Node};
@@ -40,7 +40,7 @@ fn compare(a: &[u8], b: &[u8], list: &[u8], asked: &Edit) {
     let mut right = (a.to_vec(), b.to_vec(), list.to_vec());
     let mut got = right.clone();
     let answer = Model.edit(&mut right.0, &mut right.1, &mut right.2, &bytes);
-    let said = edit(&mut got.0, &mut got.1, &mut got.2, &bytes);
+    let said = Archive.edit(&mut got.0, &mut got.1, &mut got.2, &bytes);
     assert_eq!(said, answer, "{asked:?}");
     assert!(answer <= LIST_ROWS as u32, "refused: {asked:?}");
     assert!(got == right, "{asked:?}");
@@ -54,7 +54,7 @@ fn opposite_corners() {
         let (a, b) = (table_of(&master(place)), table_of(&master(opposite)));
         let (mut list, mut got) = (vec![0; LIST_BYTES], vec![0; LIST_BYTES]);
         let links = Model.pair(&a, &b, &mut list);
-        assert_eq!(pair(&a, &b, &mut got), links);
+        assert_eq!(Archive.pair(&a, &b, &mut got), links);
         assert!(got == list, "{place:?}");
         let distances = links_of(&list).into_iter().map(|link| link.distance);
         assert_eq!(distances.max(), Some(GREATEST));

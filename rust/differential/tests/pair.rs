@@ -3,10 +3,11 @@
 
 mod support;
 
-use differential::pair;
+use differential::Archive;
 use model::answer::number_of;
 use model::buffers::list_of;
 use model::calls;
+use model::engine::Engine;
 use model::generate::damage::{damage_table, TABLE_FAULTS};
 use model::generate::drawing::{Drawing, Size, CAPACITIES, NUMBERS, SIZES};
 use model::generate::lengths::wrong_length;
@@ -52,7 +53,7 @@ fn lent_list(random: &mut Random) -> Vec<u8> {
 fn pair_within(lent: &[u8], a: &[u8], b: &[u8]) -> (u32, Vec<u8>) {
     let mut after = lent.to_vec();
     let list = MARGIN..lent.len() - MARGIN;
-    let answer = pair(a, b, &mut after[list]);
+    let answer = Archive.pair(a, b, &mut after[list]);
     (answer, after)
 }
 

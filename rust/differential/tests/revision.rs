@@ -1,7 +1,7 @@
 //! Edits that leave many nodes with more than they had: up to as many as a revision of the links keeps at a time, and one
 //! more, where the links are joined anew.
 
-use differential::edit;
+use differential::Archive;
 use model::buffers::{links_of, table_of};
 use model::engine::{Engine, Model};
 use model::rows::{Edit, Node};
@@ -31,7 +31,8 @@ fn many_nodes_with_more_than_they_had() {
             let moved = Edit::moved(master, 1, POSITION_MIN, 0).bytes();
             let (mut right, mut got) = ((a.clone(), b.clone(), list.clone()), (a, b, list));
             let answer = Model.edit(&mut right.0, &mut right.1, &mut right.2, &moved);
-            assert_eq!(edit(&mut got.0, &mut got.1, &mut got.2, &moved), answer);
+            let said = Archive.edit(&mut got.0, &mut got.1, &mut got.2, &moved);
+            assert_eq!(said, answer);
             assert!(got == right, "{held} held, master {master}");
             assert_eq!(links_of(&got.2).len() as u64, held);
         }

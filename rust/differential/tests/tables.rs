@@ -1,8 +1,9 @@
 //! Verdicts on tables, through Pair: sound ones of every size, damaged ones of every kind, random bytes, wrong lengths.
 
-use differential::pair;
+use differential::Archive;
 use model::answer::answer_of;
 use model::buffers::{first_faulty_row, nodes_of};
+use model::engine::Engine;
 use model::generate::damage::{damage_table, damage_table_often, TABLE_FAULTS};
 use model::generate::drawing::{Drawing, SIZES};
 use model::generate::lengths::wrong_length;
@@ -27,7 +28,7 @@ fn compare(table: &[u8], seed: u64, what: &str) {
     let empty = vec![0; TABLE_BYTES];
     for (number, a, b) in [(2, table, &empty[..]), (3, &empty[..], table)] {
         let (mut list, right) = (vec![0xa5; LIST_BYTES], expected(table, number));
-        let answer = pair(a, b, &mut list);
+        let answer = Archive.pair(a, b, &mut list);
         let byte = if right == 0 { 0 } else { 0xa5 };
         assert!(
             answer == right && list.iter().all(|other| *other == byte),

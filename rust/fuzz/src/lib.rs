@@ -1,108 +1,54 @@
-//! The model's five calls with the C interface of include/pairing.h, under names of their own. cpp/fuzz links them
-//! beside the engine.
-//!
-//! Every pointer is valid for its length, and a written buffer overlaps no other, as pairing.h has it.
+//! The model's calls for the fuzz target in cpp/fuzz, which links them beside the engine.
 
+use std::ffi::{c_char, CStr};
 use std::slice::{from_raw_parts, from_raw_parts_mut};
 
-use model::calls;
+use interface::calls;
 
-/// # Safety
-/// As the module says.
-#[no_mangle]
-pub unsafe extern "C" fn model_pair(
-    a: *const u8,
-    a_len: usize,
-    b: *const u8,
-    b_len: usize,
-    list: *mut u8,
-    list_len: usize,
-) -> u32 {
-    calls::pair(
-        from_raw_parts(a, a_len),
-        from_raw_parts(b, b_len),
-        from_raw_parts_mut(list, list_len),
-    )
+/// A buffer as it is lent.
+#[derive(Clone, Copy)]
+#[repr(C)]
+pub struct Lent {
+    pub at: *mut u8,
+    pub size: usize,
 }
 
-/// # Safety
-/// As the module says.
-#[no_mangle]
-pub unsafe extern "C" fn model_step(
-    a: *const u8,
-    a_len: usize,
-    b: *const u8,
-    b_len: usize,
-    list: *mut u8,
-    list_len: usize,
-) -> u32 {
-    calls::step(
-        from_raw_parts(a, a_len),
-        from_raw_parts(b, b_len),
-        from_raw_parts_mut(list, list_len),
-    )
+impl Lent {
+    unsafe fn read<'a>(self) -> &'a [u8] {
+        from_raw_parts(self.at, self.size)
+    }
+
+    unsafe fn write<'a>(self) -> &'a mut [u8] {
+        from_raw_parts_mut(self.at, self.size)
+    }
 }
 
-/// # Safety
-/// As the module says.
-#[no_mangle]
-pub unsafe extern "C" fn model_edit(
-    a: *mut u8,
-    a_len: usize,
-    b: *mut u8,
-    b_len: usize,
-    list: *mut u8,
-    list_len: usize,
-    edit: *const u8,
-    edit_len: usize,
-) -> u32 {
-    calls::edit(
-        from_raw_parts_mut(a, a_len),
-        from_raw_parts_mut(b, b_len),
-        from_raw_parts_mut(list, list_len),
-        from_raw_parts(edit, edit_len),
-    )
+/// The first of them, as many as the caller takes.
+unsafe fn first<T: Copy, const N: usize>(of: *const T) -> [T; N] {
+    *of.cast()
 }
 
+/// The model's call of this name on buffers and numbers in the order of include/pairing.h; u32::MAX for any other name.
+///
 /// # Safety
-/// As the module says.
+/// The name ends in a zero byte, the call's buffers and numbers are there, every pointer is valid for its length, and a
+/// written buffer overlaps no other.
 #[no_mangle]
-pub unsafe extern "C" fn model_spare(
-    a: *const u8,
-    a_len: usize,
-    b: *const u8,
-    b_len: usize,
-    list: *const u8,
-    list_len: usize,
-    master: u8,
-    number: u16,
+pub unsafe extern "C" fn model_call(
+    name: *const c_char,
+    lent: *const Lent,
+    numbers: *const u64,
 ) -> u32 {
-    calls::spare(
-        from_raw_parts(a, a_len),
-        from_raw_parts(b, b_len),
-        from_raw_parts(list, list_len),
-        master,
-        number,
-    )
-}
-
-/// # Safety
-/// As the module says.
-#[no_mangle]
-pub unsafe extern "C" fn model_bands(
-    a: *const u8,
-    a_len: usize,
-    b: *const u8,
-    b_len: usize,
-    list: *const u8,
-    list_len: usize,
-    counts: *mut u8,
-    counts_len: usize,
-) -> u32 {
-    calls::bands(
-        from_raw_parts(a, a_len),
-        from_raw_parts(b, b_len),
-        from_raw_parts(list, list_len),
-        from_raw_parts_mut(counts, counts_len),
-    )
+    let name = CStr::from_ptr(name).to_bytes();
+    macro_rules! try_call {
+        ($call:ident [$($buffer:ident: $how:ident),*] ($($number:ident: $type:ty),*)) => {
+            if name == stringify!($call).as_bytes() {
+                let [$($buffer),*] = first(lent);
+                let [$($number),*] = first(numbers);
+                return model::calls::$call($($buffer.$how(),)* $($number as $type),*);
+            }
+        };
+    }
+    calls!(try_call);
+    u32::MAX
 }

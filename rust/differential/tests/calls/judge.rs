@@ -4,7 +4,7 @@ use std::fmt::{Display, Formatter, Result as Written};
 
 use model::answer::number_of;
 use model::buffers::nodes_of;
-use model::engine::{Call, Engine, Model, Ran, Request};
+use model::engine::{Buffers, Call, Engine, Model, Ran, Request};
 use model::generate::random::Random;
 use model::report::hex;
 
@@ -38,17 +38,29 @@ impl Display for Mismatch {
             request,
             ..
         } = &self.case;
-        match request {
-            Request::Edit { edit } => write!(out, "Edit {}", hex(edit))?,
-            Request::Spare { master, number } => write!(out, "Spare {master} {number}")?,
-            Request::Bands { counts } => write!(out, "Bands {}", hex(counts))?,
-            other => write!(out, "{}", other.name())?,
-        }
-        writeln!(out, ": {}", self.what)?;
+        writeln!(out, "{request:?}: {}", self.what)?;
         writeln!(out, "table A {}", hex(a))?;
         writeln!(out, "table B {}", hex(b))?;
         write!(out, "list {}", hex(list))
     }
+}
+
+/// Where a buffer first differs, in words.
+fn difference(got: &Buffers, right: &Buffers) -> Option<String> {
+    let Buffers { a, b, list, counts } = right;
+    let all = [
+        ("table A", &got.a, a),
+        ("table B", &got.b, b),
+        ("the list", &got.list, list),
+        ("the counts", &got.counts, counts),
+    ];
+    all.into_iter().find_map(|(name, got, right)| {
+        let at = (0..got.len()).find(|&at| got[at] != right[at])?;
+        let (byte, other) = (got[at], right[at]);
+        Some(format!(
+            "byte {at} of {name} is {byte:#04x}, not {other:#04x}"
+        ))
+    })
 }
 
 /// Runs the case on both, counts it, and gives what the model left behind.
@@ -58,19 +70,17 @@ pub fn judge(
     tally: &mut Tally,
 ) -> std::result::Result<Ran, Box<Mismatch>> {
     let request = &case.request;
-    let ran = Model.run(&Call::whole(request.clone()), &case.a, &case.b, &case.list);
-    let mut lent = Lent::new(random, request, &ran.before, case.shared);
-    let expected = lent.with(request, &ran.after);
-    let answer = lent.call(request);
-    if answer != ran.answer || lent.memory != expected {
-        return Err(Box::new(Mismatch {
-            case: case.clone(),
-            what: format!(
-                "answer {answer:#x}, not {:#x}; {}",
-                ran.answer,
-                lent.first_difference(&expected)
-            ),
-        }));
+    let call = Call::whole(request.clone());
+    let ran = Model.run(&call, &case.a, &case.b, &case.list);
+    let lent = Lent::new(random, case.shared);
+    let got = lent.run(&call, &case.a, &case.b, &case.list);
+    let stray = lent.stray();
+    if got != ran || stray.is_some() {
+        let wrong = stray.or_else(|| difference(&got.after, &ran.after));
+        let wrong = wrong.unwrap_or("no byte differs".to_string());
+        let what = format!("answer {:#x}, not {:#x}; {wrong}", got.answer, ran.answer);
+        let case = case.clone();
+        return Err(Box::new(Mismatch { case, what }));
     }
     let nodes = match (request, number_of(ran.answer)) {
         // An arrival may have filled a master.

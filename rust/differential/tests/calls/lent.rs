@@ -1,100 +1,126 @@
-//! Lent memory: all buffers of a call in one stretch, at any address, with bytes that are not lent around each.
+//! The archive on lent memory: all buffers of a call in one stretch, at any address, with bytes that are not lent around
+//! each.
 
+use std::array::from_fn;
+use std::cell::RefCell;
 use std::ops::Range;
 
-use differential::exported::*;
-use model::engine::{Buffers, Request};
+use differential::exported;
+use interface::{calls, slice};
+use model::engine::Engine;
 use model::generate::random::Random;
 
 /// The most bytes between two buffers, and ahead of the first and behind the last.
 const MOST_BETWEEN: usize = 24;
 
-pub const NAMES: [&str; 4] = ["table A", "table B", "the list", "the edit or counts"];
-
-pub struct Lent {
-    pub memory: Vec<u8>,
-    /// Where the tables, the list, and the edit or the counts stand.
-    places: [Range<usize>; 4],
+/// The archive's calls, each on memory of its own.
+pub struct Lent<'a> {
+    random: RefCell<&'a mut Random>,
+    /// Table B is lent as A's own bytes.
+    shared: bool,
+    stray: RefCell<Option<String>>,
 }
 
-/// The bytes of the fourth buffer: an edit is no part of the model's buffers, since it is only read.
-fn fourth<'a>(request: &'a Request, buffers: &'a Buffers) -> &'a [u8] {
-    match request {
-        Request::Edit { edit } => edit,
-        _ => &buffers.counts,
+impl Lent<'_> {
+    pub fn new(random: &mut Random, shared: bool) -> Lent<'_> {
+        Lent {
+            random: RefCell::new(random),
+            shared,
+            stray: RefCell::default(),
+        }
+    }
+
+    /// The first byte that a call has changed and must not, in words.
+    pub fn stray(self) -> Option<String> {
+        self.stray.into_inner()
     }
 }
 
-impl Lent {
-    /// Lends these buffers; where the tables are shared, B is lent as A's own bytes.
-    pub fn new(random: &mut Random, request: &Request, buffers: &Buffers, shared: bool) -> Lent {
-        let mut memory = Vec::new();
-        let mut place = |bytes: &[u8]| {
+macro_rules! lend {
+    ($call:ident [$($buffer:ident: $how:ident),*] ($($number:ident: $type:ty),*)) => {
+        fn $call(&self, $($buffer: slice!($how),)* $($number: $type),*) -> u32 {
+            let lent = [$((stringify!($buffer), &*$buffer)),*];
+            let mut memory = Memory::new(*self.random.borrow_mut(), lent, self.shared);
+            let answer = {
+                let [$($buffer),*] = memory.lend();
+                // The buffers lie within the memory, and what is written overlaps nothing else: tables are shared
+                // only by calls that read them.
+                unsafe { exported::$call($($buffer.0, $buffer.1,)* $($number),*) }
+            };
+            $(memory.$how(stringify!($buffer), $buffer);)*
+            self.stray.replace(memory.stray());
+            answer
+        }
+    };
+}
+
+impl Engine for Lent<'_> {
+    calls!(lend);
+}
+
+struct Memory<const N: usize> {
+    before: Vec<u8>,
+    bytes: Vec<u8>,
+    places: [Range<usize>; N],
+    names: [&'static str; N],
+}
+
+impl<const N: usize> Memory<N> {
+    fn new(random: &mut Random, lent: [(&'static str, &[u8]); N], shared: bool) -> Memory<N> {
+        let mut bytes = Vec::new();
+        let mut place = |buffer: &[u8]| {
             let between = random.size(1, MOST_BETWEEN);
-            memory.extend(random.bytes(between));
-            memory.extend(bytes);
-            memory.len() - bytes.len()..memory.len()
+            bytes.extend(random.bytes(between));
+            bytes.extend(buffer);
+            bytes.len() - buffer.len()..bytes.len()
         };
-        let a = place(&buffers.a);
-        let b = if shared { a.clone() } else { place(&buffers.b) };
-        let list = place(&buffers.list);
-        let other = place(fourth(request, buffers));
+        let mut places = lent.map(|(_, buffer)| place(buffer));
         place(&[]);
-        let places = [a, b, list, other];
-        Lent { memory, places }
-    }
-
-    /// The same memory with these buffers in it, of the same lengths.
-    pub fn with(&self, request: &Request, buffers: &Buffers) -> Vec<u8> {
-        let mut memory = self.memory.clone();
-        let bytes = [
-            &buffers.a,
-            &buffers.b,
-            &buffers.list,
-            fourth(request, buffers),
-        ];
-        for (place, bytes) in self.places.iter().zip(bytes) {
-            memory[place.clone()].copy_from_slice(bytes);
+        if shared {
+            places[1] = places[0].clone();
         }
-        memory
-    }
-
-    pub fn call(&mut self, request: &Request) -> u32 {
-        let start = self.memory.as_mut_ptr();
-        // Every place lies within the memory.
-        let [a, b, list, other] = [0, 1, 2, 3].map(|k| unsafe { start.add(self.places[k].start) });
-        let [a_len, b_len, list_len, other_len] = [0, 1, 2, 3].map(|k| self.places[k].len());
-        // All pointers come from one mutable borrow, so that a write anywhere in the memory is seen, and the
-        // buffers that the call writes overlap no other: only tables of calls that read them are shared.
-        unsafe {
-            match request {
-                Request::Pair => pairing_pair(a, a_len, b, b_len, list, list_len),
-                Request::Step => pairing_step(a, a_len, b, b_len, list, list_len),
-                Request::Edit { .. } => {
-                    pairing_edit(a, a_len, b, b_len, list, list_len, other, other_len)
-                }
-                Request::Spare { master, number } => {
-                    pairing_spare(a, a_len, b, b_len, list, list_len, *master, *number)
-                }
-                Request::Bands { .. } => {
-                    pairing_bands(a, a_len, b, b_len, list, list_len, other, other_len)
-                }
-            }
+        Memory {
+            before: bytes.clone(),
+            bytes,
+            places,
+            names: lent.map(|(name, _)| name),
         }
     }
 
-    /// Where the memory first differs from the expected one, in words.
-    pub fn first_difference(&self, expected: &[u8]) -> String {
-        let both = self.memory.iter().zip(expected);
-        let Some(at) = both.into_iter().position(|(byte, other)| byte != other) else {
-            return "no byte differs".to_string();
-        };
-        let (byte, other) = (self.memory[at], expected[at]);
+    /// Pointers and lengths. All come from one mutable borrow, so that a write anywhere in the memory is seen.
+    fn lend(&mut self) -> [(*mut u8, usize); N] {
+        let start = self.bytes.as_mut_ptr();
+        from_fn(|k| {
+            (
+                start.wrapping_add(self.places[k].start),
+                self.places[k].len(),
+            )
+        })
+    }
+
+    /// A buffer that was read has to be as it was.
+    fn read(&mut self, _: &str, _: &[u8]) {}
+
+    /// One that was written is given back, and put aside.
+    fn write(&mut self, name: &str, buffer: &mut [u8]) {
+        let lent = self.names.iter().zip(&self.places);
+        let mut found = lent.filter(|(other, _)| **other == name);
+        let place = found.next().expect("a lent buffer").1.clone();
+        buffer.copy_from_slice(&self.bytes[place.clone()]);
+        self.bytes[place.clone()].copy_from_slice(&self.before[place]);
+    }
+
+    fn stray(&self) -> Option<String> {
+        let mut both = self.bytes.iter().zip(&self.before);
+        let at = both.position(|(byte, other)| byte != other)?;
         let within = self.places.iter().position(|place| place.contains(&at));
-        let place = match within {
-            Some(k) => format!("byte {} of {}", at - self.places[k].start, NAMES[k]),
-            None => format!("byte {at} of the memory, which is not lent,"),
-        };
-        format!("{place} is {byte:#04x}, not {other:#04x}")
+        Some(match within {
+            Some(k) => format!(
+                "byte {} of {} is written",
+                at - self.places[k].start,
+                self.names[k]
+            ),
+            None => format!("byte {at} of the memory is written, which is not lent"),
+        })
     }
 }

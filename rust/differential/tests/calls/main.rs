@@ -1,4 +1,4 @@
-//! The five calls of the archive beside the model's: answers, every lent byte, and the bytes around them.
+//! The calls of the archive beside the model's: answers, every lent byte, and the bytes around them.
 //!
 //! A failure prints its seed; `PAIRING_SEED=0x.. cargo test --release --test calls` runs that seed alone.
 

@@ -27,9 +27,10 @@ pub fn request(
             edit: edit_for(random, drawing, number, arrives)?,
         },
         "Spare" => spare_for(random, drawing, number)?,
-        _ => Request::Bands {
+        "Bands" => Request::Bands {
             counts: random.bytes(COUNTS_BYTES),
         },
+        other => panic!("no request of {other}"),
     })
 }
 
