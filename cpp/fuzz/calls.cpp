@@ -8,6 +8,7 @@
 #include <cstdio>
 #include <cstdlib>
 #include <iterator>
+#include <map>
 #include <string>
 
 extern "C" std::uint32_t model_call(const char *name, const interface::Lent *lent, const std::uint64_t *numbers);
@@ -132,10 +133,11 @@ private:
     }
 
     // Runs a call on both sides, and goes on from what they agree on.
-    void call(Name name, const std::vector<std::uint64_t> &numbers = {}) {
+    void call(Name name, const std::map<std::string, std::uint64_t> &given = {}) {
         const auto place = static_cast<std::size_t>(name);
         const interface::Call &call = interface::calls[place];
-        if (numbers.size() != call.numbers.size()) std::abort();
+        std::vector<std::uint64_t> numbers;
+        for (const char *number : call.numbers) numbers.push_back(given.at(number));
         Memory other = now_;
         const std::uint32_t right = model_call(call.text, lend(call, other).data(), numbers.data());
         const std::uint32_t answer = call.make(lend(call, now_).data(), numbers.data());
@@ -232,7 +234,7 @@ private:
     }
     void spare() {
         const std::uint8_t master = input_.byte() % 3;
-        call(Name::spare, {master, some_number(master % 2)});
+        call(Name::spare, {{"master", master}, {"number", some_number(master % 2)}});
     }
     void bands() {
         std::fill_n(now_.buffer(3), PAIRING_COUNTS_BYTES, input_.byte());

@@ -121,9 +121,11 @@ Drawing drawing(uint8_t kind) {
     put(edit, 4, placed ? 7 : 0);
     put(edit, 6, placed ? 8 : 0);
     put(edit, 8, capacity ? 9 : 0);
-    pairing_pair(a.data(), a.size(), b.data(), b.size(), list.data(), list.size());
-    return {{{"a", a}, {"b", b}, {"list", list}, {"edit", edit}, {"counts", counts}},
-            {{"master", PAIRING_MASTER_B}, {"number", number(0)}}};
+    Drawing all = {{{"a", a}, {"b", b}, {"list", list}, {"edit", edit}, {"counts", counts}},
+                   {{"master", PAIRING_MASTER_B}, {"number", number(0)}}};
+    Run pair(interface::calls[static_cast<size_t>(interface::Name::pair)], all);
+    make_call(&pair);
+    return all;
 }
 
 // Every kind of edit, each with the finished list, with half of it, and with one that has a wrong row.
