@@ -1,21 +1,26 @@
 -- Laws of nodes and links in rows.
-use Prim.Native.Nat.{ℕ, _+_, _-_, _≤_, _<_}
-use mathlib.Core.Path.{_≡_, ap}
-use mathlib.Core.List.{List, [], _∷_, _++_}
+use Prim.Native.Nat.{ℕ, zero, suc, _+_, _-_, _*_, _≤_, _<_}
+use mathlib.Core.Path.{_≡_, sym, _∙_, ap, ap₂}
+use mathlib.Core.List.{List, [], _∷_, _++_, List·Memᴰ, List·Memᴰ·head, List·Memᴰ·tail}
 use native.Mathlib.Nat.{zero-add}
 use native.Mathlib.Numerals.{add-one}
+use native.Mathlib.Decide.{ℕ-discrete}
 use native.Mathlib.Omega.{arith}
-use lib.IntN.{ℤ, pos, negsuc, natAbs}
+use lib.IntN.{ℤ, pos, negsuc, negℤ, natAbs, _+ℤ_, _-ℤ_, negℤ-negℤ, negℤ-+ℤ, +ℤ-comm}
 use lib.ListN.{length, getD, set}
 use lib.Seq.{getD-set-same, getD-set-other}
 use mir.Syntax.{w16}
 use mir.Val.{toZ, ofZ, SFits}
 use mir.Facts.{toZ-ofZ}
 use Rattle.matching.specs.declared.Spans.{Spans}
-use Rattle.matching.specs.Definitions.Nodes.{Master, Node}
-use Rattle.matching.specs.Definitions.Columns.{tabulate, edge}
-use Rattle.matching.specs.Definitions.Rows.{range, nodeIn, nodesOn, linkOf, linkIn, linksIn}
-use Rattle.matching.specs.Laws.Columns.{tabulate-length, tabulate-get, tabulate-cong, tabulate-snoc}
+use Rattle.matching.specs.Definitions.Lists.{All}
+use Rattle.matching.specs.Definitions.Nodes.{Master, Node, Unique}
+use Rattle.matching.specs.Definitions.Pairs.{square}
+use Rattle.matching.specs.Definitions.Links.{Link}
+use Rattle.matching.specs.Definitions.Columns.{tabulate, edge, Inside}
+use Rattle.matching.specs.Definitions.Rows.{range, On, xAt, yAt, gap, nodeIn, nodesOn, linkOf, linkIn, linksIn, Fit}
+use Rattle.matching.specs.Laws.Columns.{tabulate-length, tabulate-get, tabulate-all, tabulate-cong, tabulate-snoc}
+use Rattle.matching.specs.Laws.Distance.{abs-neg, inside-reach, distance-fits}
 
 -- Two bytes hold a position inside, and it is read back from them.
 pub inside-fits : (z : ℤ) → natAbs z ≤ edge → SFits w16 z
@@ -48,3 +53,52 @@ unfolding linksIn
 link-more L n x h =
     rw (add-one n, tabulate-snoc (linkIn (set L n x)) 0 n, zero-add n, written-at L n x h)
     (ap (λ K. K ++ (linkOf x ∷ [])) (tabulate-cong (linkIn (set L n x)) (linkIn L) 0 n (λ i z l. written-other L n x i (λ e. omega arith))))
+
+-- What holds of each row of a master holds of each of its nodes, and the node of a row is one of them.
+tabulate-in : {X : Type 0} (f : ℕ → X) (k n i : ℕ) → k ≤ i → i < k + n → List·Memᴰ (f i) (tabulate f k n)
+unfolding tabulate
+tabulate-in f k zero i l h = absurd (omega arith)
+tabulate-in f k (suc n) i l h = go (ℕ-discrete i k) (λ g. tabulate-in f (suc k) n i g (omega arith))
+  where
+    go : Dec (i ≡ k) → (suc k ≤ i → List·Memᴰ (f i) (tabulate f (suc k) n)) → List·Memᴰ (f i) (f k ∷ tabulate f (suc k) n)
+    go (yes e) rest = List·Memᴰ·head (ap f e)
+    go (no e) rest = List·Memᴰ·tail (rest (omega arith))
+
+tabulate-unique : (f : ℕ → Node) (k n : ℕ) → ((i j : ℕ) → k ≤ i → i < k + n → k ≤ j → j < k + n → f i .number ≡ f j .number → i ≡ j) → Unique (tabulate f k n)
+unfolding tabulate
+tabulate-unique f k zero h = tt
+tabulate-unique f k (suc n) h = (
+  tabulate-all (λ w. f k .number ≡ w .number → ⊥) f (suc k) n (λ i l g e. omega (arith, h k i (omega arith) (omega arith) (omega arith) (omega arith) e)),
+  tabulate-unique f (suc k) n (λ i j a b c d e. h i j (omega arith) (omega arith) (omega arith) (omega arith) e),
+)
+
+module _ (s : Spans) (ns : List ℕ) (at : List (List ℤ)) (cs : List ℕ) (m : Master) where
+  pub on-all : (P : Node → Type 0) → ((k : ℕ) → On s m k → P (nodeIn ns at cs k)) → All P (nodesOn s ns at cs m)
+  unfolding nodesOn
+  on-all P h = tabulate-all P (nodeIn ns at cs) (range s m .from) (range s m .to - range s m .from) (λ k l g. h k (l, omega arith))
+
+  pub on-in : (k : ℕ) → On s m k → List·Memᴰ (nodeIn ns at cs k) (nodesOn s ns at cs m)
+  unfolding nodesOn
+  on-in k h = tabulate-in (nodeIn ns at cs) (range s m .from) (range s m .to - range s m .from) k (h .0) (omega arith)
+
+  pub on-unique : Fit ns at cs s → Unique (nodesOn s ns at cs m)
+  unfolding nodesOn
+  on-unique f =
+      tabulate-unique (nodeIn ns at cs) (range s m .from) (range s m .to - range s m .from) (λ i j a b c d. f .distinct m i j (a, omega arith) (c, omega arith))
+
+-- What holds of each row of links holds of each link.
+pub in-all : (P : Link → Type 0) (L : List (List ℕ)) (n : ℕ) → ((k : ℕ) → k < n → P (linkIn L k)) → All P (linksIn L n)
+unfolding linksIn
+in-all P L n h = tabulate-all P (linkIn L) 0 n (λ k l g. h k (omega arith))
+
+-- Distances are the same from either end, and below the greatest number of four bytes.
+flip : (x y : ℤ) → square (x -ℤ y) ≡ square (y -ℤ x)
+flip x y = ap (λ (n : ℕ). n * n) (sym (abs-neg (x -ℤ y)) ∙ ap natAbs (negℤ-+ℤ x (negℤ y) ∙ ap (λ (z : ℤ). negℤ x +ℤ z) (negℤ-negℤ y) ∙ +ℤ-comm (negℤ x) y))
+
+pub gap-swap : (at : List (List ℤ)) (i : ℕ) (to : List (List ℤ)) (k : ℕ) → gap at i to k ≡ gap to k at i
+unfolding gap
+gap-swap at i to k = ap₂ _+_ (flip (xAt at i) (xAt to k)) (flip (yAt at i) (yAt to k))
+
+pub gap-fits : (at : List (List ℤ)) (i : ℕ) (to : List (List ℤ)) (k : ℕ) → Inside (xAt at i) (yAt at i) → Inside (xAt to k) (yAt to k) → gap at i to k < 4294967295
+unfolding gap
+gap-fits at i to k p q = distance-fits (xAt at i) (yAt at i) (xAt to k) (yAt to k) (inside-reach (xAt at i) (yAt at i) (xAt to k) (yAt to k) p q)
