@@ -1,12 +1,9 @@
 -- `pairing::edit::rewrite` meets its contract: the rows in common stay, the part from there on comes back written. Assumes nothing.
 use mathlib.Core.Path.{_∙_, sym}
-use Prim.Native.Nat.{ℕ, _*_, _≤_}
+use Prim.Native.Nat.{ℕ, _≤_}
 use lib.ListN.{length-replicate}
-use Rattle.tables.specs.Definitions.Sizes.{linkSize}
 use Rattle.tables.specs.Laws.ListRead.{bytes-known}
-use Rattle.tables.specs.Laws.ListCode.{tail-back}
-use Rattle.pairing.specs.Laws.Checked.{cut-even}
-use Rattle.pairing.specs.Laws.Verdicts.{joined-long}
+use Rattle.pairing.specs.Laws.Checked.{cut-even, room-long}
 use Rattle.pairing.specs.Laws.Edited.{kept-low, rewritten}
 use native.Mathlib.Omega.{arith}
 use lib.Seq.{length-take-le}
@@ -64,34 +61,22 @@ slice-aggregate-common-rows-4 : tie.Need-slice-aggregate-common-rows-4
 slice-aggregate-common-rows-4 c = search needs
 
 common-rows-requires : tie.Need-common-rows-requires
-common-rows-requires c κs = let x = c .before .before .before .before .before .before .before .before .before .before .before .before .before .before .before .before .before .before .before .before .before .before .before .before .before .before .before .before .before .before .before .before .before .before .before .before .before .before .before .before .before .before .before .before .before .before .before .before .before .before .before .before .before .before .before .args in (c .before .before .before .before .before .before .before .before .before .before .before .before .before .before .before .before .before .before .before .before .before .before .before .before .before .before .before .before .before .before .before .before .before .before .before .before .before .before .before .before .before .before .before .before .before .before .before .before .before .before .before .before .before .before .before .pre .0 .2, joined-long (x .a .now) (x .b .now) (c .before .before .before .before .before .before .before .before .before .before .before .before .before .before .before .before .before .before .before .before .before .before .before .before .before .before .before .before .before .before .before .before .before .before .before .before .before .before .before .before .before .before .before .before .before .before .before .before .before .before .before .before .before .before .before .pre .0 .0) (bytes-known (x .a .now) (c .before .before .before .before .before .before .before .before .before .before .before .before .before .before .before .before .before .before .before .before .before .before .before .before .before .before .before .before .before .before .before .before .before .before .before .before .before .before .before .before .before .before .before .before .before .before .before .before .before .before .before .before .before .before .shared-slice-known .given)) (bytes-known (x .b .now) (c .before .before .before .before .before .before .before .before .before .before .before .before .before .before .before .before .before .before .before .before .before .before .before .before .before .before .before .before .before .before .before .before .before .before .before .before .before .before .before .before .before .before .before .before .before .before .before .before .before .before .before .before .before .shared-slice-known2 .given)) (x .list .now) _ _ _ _ _ (c .before .before .before .before .before .before .before .before .before .before .before .before .before .before .before .before .before .before .before .before .revised .ensures))
+common-rows-requires c κs = let j = c .before .before .before .before .before .before .before .before .before .before .before .before .before .before .before .before .before .before .before .before .revised .ensures in (c .before .before .before .before .before .before .before .before .before .before .before .before .before .before .before .before .before .before .before .before .before .before .before .before .before .before .before .before .before .before .before .before .before .before .before .before .before .before .before .before .before .before .before .before .before .before .before .before .before .before .before .before .before .before .before .pre .0 .2, room-long _ _ _ _ _ (j .room) (j .most))
 
-mul-at : tie.Need-mul-at
-mul-at c = record { fits = omega (arith, kept c, c .before .before .before .before .before .before .before .before .before .before .before .before .before .before .before .before .before .before .before .before .before .revised .ensures .most) }
+slice-aggregate-write-rows : tie.Need-slice-aggregate-write-rows
+slice-aggregate-write-rows c = search needs
 
-sub-write-links : tie.Need-sub-write-links
-sub-write-links c = omega (arith, kept c, c .before .before .before .before .before .before .before .before .before .before .before .before .before .before .before .before .before .before .before .before .before .revised .ensures .most, c .before .before .before .before .before .before .before .before .before .before .before .before .before .before .before .before .before .before .before .before .before .before .before .before .before .before .before .before .before .before .before .before .before .before .before .before .before .before .before .before .before .before .before .before .before .before .before .before .before .before .before .before .before .before .before .before .pre .0 .1)
+slice-aggregate-write-rows-2 : tie.Need-slice-aggregate-write-rows-2
+slice-aggregate-write-rows-2 c = search needs
 
-part-write-links-start : tie.Need-part-write-links-start
-part-write-links-start c = omega (arith, kept c, c .before .before .before .before .before .before .before .before .before .before .before .before .before .before .before .before .before .before .before .before .before .revised .ensures .most, c .before .before .before .before .before .before .before .before .before .before .before .before .before .before .before .before .before .before .before .before .before .before .before .before .before .before .before .before .before .before .before .before .before .before .before .before .before .before .before .before .before .before .before .before .before .before .before .before .before .before .before .before .before .before .before .before .pre .0 .1)
+slice-aggregate-write-rows-3 : tie.Need-slice-aggregate-write-rows-3
+slice-aggregate-write-rows-3 c = search needs
 
-part-write-links-end : tie.Need-part-write-links-end
-part-write-links-end c = search needs
+slice-aggregate-write-rows-4 : tie.Need-slice-aggregate-write-rows-4
+slice-aggregate-write-rows-4 c = search needs
 
-slice-aggregate-write-links : tie.Need-slice-aggregate-write-links
-slice-aggregate-write-links c = search needs
-
-slice-aggregate-write-links-2 : tie.Need-slice-aggregate-write-links-2
-slice-aggregate-write-links-2 c = search needs
-
-slice-aggregate-write-links-3 : tie.Need-slice-aggregate-write-links-3
-slice-aggregate-write-links-3 c = search needs
-
-slice-aggregate-write-links-4 : tie.Need-slice-aggregate-write-links-4
-slice-aggregate-write-links-4 c = search needs
-
-write-links-requires : tie.Need-write-links-requires
-write-links-requires c κs = let x = c .before .before .before .before .before .before .before .before .before .before .before .before .before .before .before .before .before .before .before .before .before .before .before .before .before .before .before .before .before .before .before .before .before .before .before .before .before .before .before .before .before .before .before .before .before .before .before .before .before .before .before .before .before .before .before .before .before .before .before .before .before .args in let j = c .before .before .before .before .before .before .before .before .before .before .before .before .before .before .before .before .before .before .before .before .before .before .before .before .before .before .revised .ensures in let k = kept (c .before .before .before .before .before) in ((omega (arith, k, j .most, c .before .before .before .before .before .before .before .before .before .before .before .before .before .before .before .before .before .before .before .before .before .before .before .before .before .before .before .before .before .before .before .before .before .before .before .before .before .before .before .before .before .before .before .before .before .before .before .before .before .before .before .before .before .before .before .before .before .before .before .before .before .pre .0 .1), k, j .most), joined-long (x .a .now) (x .b .now) (c .before .before .before .before .before .before .before .before .before .before .before .before .before .before .before .before .before .before .before .before .before .before .before .before .before .before .before .before .before .before .before .before .before .before .before .before .before .before .before .before .before .before .before .before .before .before .before .before .before .before .before .before .before .before .before .before .before .before .before .before .before .pre .0 .0) (bytes-known (x .a .now) (c .before .before .before .before .before .before .before .before .before .before .before .before .before .before .before .before .before .before .before .before .before .before .before .before .before .before .before .before .before .before .before .before .before .before .before .before .before .before .before .before .before .before .before .before .before .before .before .before .before .before .before .before .before .before .before .before .before .before .before .before .shared-slice-known .given)) (bytes-known (x .b .now) (c .before .before .before .before .before .before .before .before .before .before .before .before .before .before .before .before .before .before .before .before .before .before .before .before .before .before .before .before .before .before .before .before .before .before .before .before .before .before .before .before .before .before .before .before .before .before .before .before .before .before .before .before .before .before .before .before .before .before .before .shared-slice-known2 .given)) (x .list .now) _ _ _ _ _ j)
+write-rows-requires : tie.Need-write-rows-requires
+write-rows-requires c κs = let j = c .before .before .before .before .before .before .before .before .before .before .before .before .before .before .before .before .before .before .before .before .before .before .before .before .before .before .revised .ensures in (c .before .before .before .before .before .before .before .before .before .before .before .before .before .before .before .before .before .before .before .before .before .before .before .before .before .before .before .before .before .before .before .before .before .before .before .before .before .before .before .before .before .before .before .before .before .before .before .before .before .before .before .before .before .before .before .before .before .before .before .before .before .pre .0 .1, kept (c .before .before .before .before .before), j .most, room-long _ _ _ _ _ (j .room) (j .most))
 
 same-length : tie.Need-same-length
 same-length c = search needs
@@ -115,7 +100,10 @@ same-length-7 : tie.Need-same-length-7
 same-length-7 c = c .before .before .before .before .before .before .before .before .before .before .before .before .before .before .before .before .before .before .bh .given
 
 returns : tie.Need-returns
-returns c = let x = c .before .before .before .before .before .before .before .before .before .before .before .before .before .before .before .before .before .before .before .before .before .before .before .before .before .before .before .before .before .before .before .before .before .before .before .before .before .before .before .before .before .before .before .before .before .before .before .before .before .before .before .before .before .before .before .before .before .before .before .before .before .before .before .before .args in let j = c .before .before .before .before .before .before .before .before .before .before .before .before .before .before .before .before .before .before .before .before .before .before .before .before .before .before .before .before .before .revised .ensures in let k = kept (c .before .before .before .before .before .before .before .before) in rewritten (x .a .now) (x .b .now) (c .before .before .before .before .before .before .before .before .before .before .before .before .before .before .before .before .before .before .before .before .before .before .before .before .before .before .before .before .before .before .before .before .before .before .before .before .before .before .before .before .before .before .before .before .before .before .before .before .before .before .before .before .before .before .before .before .before .before .before .before .before .before .before .before .pre .0 .0) (bytes-known (x .a .now) (c .before .before .before .before .before .before .before .before .before .before .before .before .before .before .before .before .before .before .before .before .before .before .before .before .before .before .before .before .before .before .before .before .before .before .before .before .before .before .before .before .before .before .before .before .before .before .before .before .before .before .before .before .before .before .before .before .before .before .before .before .before .before .before .shared-slice-known .given)) (bytes-known (x .b .now) (c .before .before .before .before .before .before .before .before .before .before .before .before .before .before .before .before .before .before .before .before .before .before .before .before .before .before .before .before .before .before .before .before .before .before .before .before .before .before .before .before .before .before .before .before .before .before .before .before .before .before .before .before .before .before .before .before .before .before .before .before .before .before .shared-slice-known2 .given)) (x .list .now) (x .la .now) (x .lb .now) (x .ld .now) (x .lm .now) (x .n) _ _ _ _ _ j _ (c .before .before .before .before .before .before .before .before .common-rows .ensures .0) _ _ (c .before .before .write-links .ensures) (tail-back (linkSize * (c .before .before .before .before .before .before .before .before .common-rows .result)) (x .list .now) _ (omega (arith, k, j .most, c .before .before .before .before .before .before .before .before .before .before .before .before .before .before .before .before .before .before .before .before .before .before .before .before .before .before .before .before .before .before .before .before .before .before .before .before .before .before .before .before .before .before .before .before .before .before .before .before .before .before .before .before .before .before .before .before .before .before .before .before .before .before .before .before .pre .0 .1)))
+returns c =
+    let s = c .before .before .before .before .before .before .before .before .before .before .before .before .before .before .before .before .before .before .before .before .before .before .before .before .before .before .before .before .before .before .before .before .before .before .before .before .before .before .before .before .before .before .before .before .before .before .before .before .before .before .before .before .before .before .before .before .before .before .before .before .before .before .before .before in
+    let x = s .args in
+    rewritten (x .a .now) (x .b .now) (s .pre .0 .0) (bytes-known (x .a .now) (c .before .before .before .before .before .before .before .before .before .before .before .before .before .before .before .before .before .before .before .before .before .before .before .before .before .before .before .before .before .before .before .before .before .before .before .before .before .before .before .before .before .before .before .before .before .before .before .before .before .before .before .before .before .before .before .before .before .before .before .before .before .before .before .shared-slice-known .given)) (bytes-known (x .b .now) (c .before .before .before .before .before .before .before .before .before .before .before .before .before .before .before .before .before .before .before .before .before .before .before .before .before .before .before .before .before .before .before .before .before .before .before .before .before .before .before .before .before .before .before .before .before .before .before .before .before .before .before .before .before .before .before .before .before .before .before .before .before .before .shared-slice-known2 .given)) (x .list .now) (x .la .now) (x .lb .now) (x .ld .now) (x .lm .now) (x .n) _ _ _ _ _ (c .before .before .before .before .before .before .before .before .before .before .before .before .before .before .before .before .before .before .before .before .before .before .before .before .before .before .before .before .before .revised .ensures) _ (c .before .before .before .before .before .before .before .before .common-rows .ensures .0) _ (c .before .before .write-rows .ensures)
 
 pub rewrite-spec : {M : Type 1} → statement M
 rewrite-spec =
@@ -137,15 +125,11 @@ rewrite-spec =
     slice-aggregate-common-rows-3
     slice-aggregate-common-rows-4
     common-rows-requires
-    mul-at
-    sub-write-links
-    part-write-links-start
-    part-write-links-end
-    slice-aggregate-write-links
-    slice-aggregate-write-links-2
-    slice-aggregate-write-links-3
-    slice-aggregate-write-links-4
-    write-links-requires
+    slice-aggregate-write-rows
+    slice-aggregate-write-rows-2
+    slice-aggregate-write-rows-3
+    slice-aggregate-write-rows-4
+    write-rows-requires
     same-length
     same-length-2
     same-length-3
