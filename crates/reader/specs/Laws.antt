@@ -1,11 +1,11 @@
 -- The reader's rows by cases, and the nodes that they have.
-use Prim.Native.Nat.{ℕ, zero, suc, _+_, _*_, _-_, _<_, _≤_}
+use Prim.Native.Nat.{ℕ, zero, suc, _+_, _*_, _<_, _≤_, min}
 use mathlib.Core.Path.{_≡_, refl, sym, _∙_, ap}
 use mathlib.Core.Bool.{Bool, true, false, cond, _&&_, _||_}
 use mathlib.Core.Option.{Option, none, some}
 use mathlib.Core.List.{List, [], _∷_}
 use native.Mathlib.Decide.{ℕ-discrete, decLt}
-use native.Mathlib.Nat.{min-eq-left, min-eq-right, zero-add}
+use native.Mathlib.Nat.{zero-add}
 use native.Mathlib.Omega.{arith}
 use lib.Dec.{eqb}
 use lib.ListN.{length}
@@ -23,19 +23,32 @@ use Rattle.reader.specs.declared.Node.{Node as Held}
 use Rattle.reader.specs.declared.Found.the-variants.{Nothing, One}
 use Rattle.reader.specs.Definitions.{nth, numbered, missing, sound, refusedRow, startRow, rowAfter, nodeAt, nodeOf, asNode, foundOf}
 
--- The row n nodes on.
+-- The row n nodes on: what is refused stays so, and reading stays in the table.
 module _ (k n : ℕ) where
-  pub after-refused : nodeRows < k → k ≡ rowAfter k n
+  pub after-refused : nodeRows < k → rowAfter k n ≡ k
   unfolding rowAfter
   after-refused h = rw (lt-ltb nodeRows k h)
 
-  pub after-end : k ≤ nodeRows → nodeRows - k < n → nodeRows ≡ rowAfter k n
+  pub after-read : k ≤ nodeRows → rowAfter k n ≡ min nodeRows (k + n)
   unfolding rowAfter
-  after-end h g = rw (le-ltb nodeRows k h) (sym (min-eq-left (omega arith)))
+  after-read h = rw (le-ltb nodeRows k h)
 
-  pub after-more : k ≤ nodeRows → n ≤ nodeRows - k → k + n ≡ rowAfter k n
-  unfolding rowAfter
-  after-more h g = rw (le-ltb nodeRows k h) (sym (min-eq-right (omega arith)))
+pub after-none : (k : ℕ) → rowAfter k 0 ≡ k
+after-none k = go (decLt nodeRows k)
+  where
+    go : Dec (nodeRows < k) → rowAfter k 0 ≡ k
+    go (yes h) = after-refused k 0 h
+    go (no h) = omega (arith, after-read k 0 (omega arith))
+
+-- Some nodes on, and then others, is all of them on: each row that a reader comes to is so many nodes on from the start.
+pub after-again : (k i j : ℕ) → rowAfter (rowAfter k i) j ≡ rowAfter k (i + j)
+after-again k i j = go (decLt nodeRows k)
+  where
+    go : Dec (nodeRows < k) → rowAfter (rowAfter k i) j ≡ rowAfter k (i + j)
+    go (yes h) = rw (after-refused k i h, after-refused k j h, after-refused k (i + j) h)
+    go (no h) =
+        let e = after-read k i (omega arith) in
+        omega (arith, e, after-read (rowAfter k i) j (omega arith), after-read k (i + j) (omega arith))
 
 -- The verdict on a table,
 module _ (t : List ℕ) where
@@ -103,7 +116,7 @@ nth-behind (v ∷ A) zero h = absurd (omega arith)
 nth-behind (v ∷ A) (suc j) h = nth-behind A j (omega arith)
 
 -- What a search by number gives stands at the place of the number.
-pub numbered-none : (n : ℕ) (A : List Node) → has n A ≡ false → numbered n A ≡ none
+numbered-none : (n : ℕ) (A : List Node) → has n A ≡ false → numbered n A ≡ none
 unfolding has numbered
 numbered-none n [] e = refl
 numbered-none n (v ∷ A) e = go (eqb (v .number) n) e (numbered-none n A)
@@ -116,11 +129,11 @@ pub numbered-empty : (n : ℕ) → numbered n [] ≡ none
 unfolding numbered
 numbered-empty n = refl
 
-pub record Placed (n : ℕ) (A : List Node) : Type 0 where
+record Placed (n : ℕ) (A : List Node) : Type 0 where
   pub within : place n A < length A
   pub node : nth A (place n A) ≡ numbered n A
 
-pub placed : (n : ℕ) (A : List Node) → has n A ≡ true → Placed n A
+placed : (n : ℕ) (A : List Node) → has n A ≡ true → Placed n A
 placed n [] e = unfold has in absurd (let z : _≡_ {A = ℕ} 0 1 = cc in omega arith)
 placed n (v ∷ A) e = go (ℕ-discrete (v .number) n) (placed n A)
   where
