@@ -1,5 +1,6 @@
 -- Laws that the theorems and the code's proofs lean on.
 pub mod Lists
+pub mod Loops
 pub mod Order
 pub mod Distance
 pub mod Left
@@ -16,6 +17,5 @@ pub mod Undo
 pub mod Without
 pub mod Amounts
 pub mod Columns
-pub mod Rows
 pub mod Sets
 pub mod Spent

@@ -1,41 +1,53 @@
 -- The reader's rows by cases, and the nodes that they have.
-use Prim.Native.Nat.{ℕ, zero, suc, _+_, _*_, _-_, _<_, _≤_}
+use Prim.Native.Nat.{ℕ, zero, suc, _+_, _*_, _<_, _≤_, min}
 use mathlib.Core.Path.{_≡_, refl, sym, _∙_, ap}
 use mathlib.Core.Bool.{Bool, true, false, cond, _&&_, _||_}
 use mathlib.Core.Option.{Option, none, some}
 use mathlib.Core.List.{List, [], _∷_}
 use native.Mathlib.Decide.{ℕ-discrete, decLt}
-use native.Mathlib.Nat.{min-eq-left, min-eq-right, zero-add}
+use native.Mathlib.Nat.{zero-add}
 use native.Mathlib.Omega.{arith}
 use lib.Dec.{eqb}
 use lib.ListN.{length}
 use borrow.Author.Tests.{eq-eqb, ne-eqb, lt-ltb, le-ltb, le-leb, lt-leb}
 use Rattle.matching.specs.Definitions.Nodes.{Node, has, place}
 use Rattle.tables.specs.Definitions.Sizes.{nodeSize, nodeRows, tableSize}
-use Rattle.tables.specs.Definitions.Tables.{nodeFrom, rowNumber, nodesFrom, nodesIn, faulty, firstFault}
+use Rattle.tables.specs.Definitions.Tables.{nodeFrom, rowNumber, nodesFrom, nodesIn, firstFault}
 use Rattle.tables.specs.Definitions.Code.{faultOf}
 use Rattle.tables.specs.declared.faults.Fault.the-variants.{None, Row}
-use Rattle.tables.specs.Laws.Rows.{none-from}
 use Rattle.tables.specs.Laws.Sound.{fault-row, fault-none}
-use Rattle.tables.specs.Laws.Accepted.{with-number, not-before}
+use Rattle.tables.specs.Laws.Accepted.{last-zero, still-zero}
 use Rattle.tables.specs.Laws.Find.{RowOf}
 use Rattle.reader.specs.declared.Node.{Node as Held}
 use Rattle.reader.specs.declared.Found.the-variants.{Nothing, One}
 use Rattle.reader.specs.Definitions.{nth, numbered, missing, sound, refusedRow, startRow, rowAfter, nodeAt, nodeOf, asNode, foundOf}
 
--- The row n nodes on.
+-- The row n nodes on: what is refused stays so, and reading stays in the table.
 module _ (k n : ℕ) where
-  pub after-refused : nodeRows < k → k ≡ rowAfter k n
+  pub after-refused : nodeRows < k → rowAfter k n ≡ k
   unfolding rowAfter
   after-refused h = rw (lt-ltb nodeRows k h)
 
-  pub after-end : k ≤ nodeRows → nodeRows - k < n → nodeRows ≡ rowAfter k n
+  pub after-read : k ≤ nodeRows → rowAfter k n ≡ min nodeRows (k + n)
   unfolding rowAfter
-  after-end h g = rw (le-ltb nodeRows k h) (sym (min-eq-left (omega arith)))
+  after-read h = rw (le-ltb nodeRows k h)
 
-  pub after-more : k ≤ nodeRows → n ≤ nodeRows - k → k + n ≡ rowAfter k n
-  unfolding rowAfter
-  after-more h g = rw (le-ltb nodeRows k h) (sym (min-eq-right (omega arith)))
+pub after-none : (k : ℕ) → rowAfter k 0 ≡ k
+after-none k = go (decLt nodeRows k)
+  where
+    go : Dec (nodeRows < k) → rowAfter k 0 ≡ k
+    go (yes h) = after-refused k 0 h
+    go (no h) = omega (arith, after-read k 0 (omega arith))
+
+-- Some nodes on, and then others, is all of them on: each row that a reader comes to is so many nodes on from the start.
+pub after-again : (k i j : ℕ) → rowAfter (rowAfter k i) j ≡ rowAfter k (i + j)
+after-again k i j = go (decLt nodeRows k)
+  where
+    go : Dec (nodeRows < k) → rowAfter (rowAfter k i) j ≡ rowAfter k (i + j)
+    go (yes h) = rw (after-refused k i h, after-refused k j h, after-refused k (i + j) h)
+    go (no h) =
+        let e = after-read k i (omega arith) in
+        omega (arith, e, after-read (rowAfter k i) j (omega arith), after-read k (i + j) (omega arith))
 
 -- The verdict on a table,
 module _ (t : List ℕ) where
@@ -103,7 +115,7 @@ nth-behind (v ∷ A) zero h = absurd (omega arith)
 nth-behind (v ∷ A) (suc j) h = nth-behind A j (omega arith)
 
 -- What a search by number gives stands at the place of the number.
-pub numbered-none : (n : ℕ) (A : List Node) → has n A ≡ false → numbered n A ≡ none
+numbered-none : (n : ℕ) (A : List Node) → has n A ≡ false → numbered n A ≡ none
 unfolding has numbered
 numbered-none n [] e = refl
 numbered-none n (v ∷ A) e = go (eqb (v .number) n) e (numbered-none n A)
@@ -116,11 +128,11 @@ pub numbered-empty : (n : ℕ) → numbered n [] ≡ none
 unfolding numbered
 numbered-empty n = refl
 
-pub record Placed (n : ℕ) (A : List Node) : Type 0 where
+record Placed (n : ℕ) (A : List Node) : Type 0 where
   pub within : place n A < length A
   pub node : nth A (place n A) ≡ numbered n A
 
-pub placed : (n : ℕ) (A : List Node) → has n A ≡ true → Placed n A
+placed : (n : ℕ) (A : List Node) → has n A ≡ true → Placed n A
 placed n [] e = unfold has in absurd (let z : _≡_ {A = ℕ} 0 1 = cc in omega arith)
 placed n (v ∷ A) e = go (ℕ-discrete (v .number) n) (placed n A)
   where
@@ -164,40 +176,13 @@ module _ (t : List ℕ) (size : length t ≡ tableSize) where
           ap (nodeAt t) (w .is h) ∙ row-place (place n (nodesIn t)) (λ l. absurd (omega (arith, p .within))) ∙ p .node
       go (no h) = sym (node-behind t r size (omega arith)) ∙ sym (numbered-none n (nodesIn t) (w .known ∙ le-ltb r nodeRows (omega arith)))
 
-  end-row : (n k : ℕ) → length (nodesFrom t k n) < n → rowNumber t (k + length (nodesFrom t k n)) ≡ 0
-  end-row zero k h = absurd (omega arith)
-  end-row (suc n) k h = go (ℕ-discrete (rowNumber t k) 0) h (end-row n (suc k))
-    where
-      go : Dec (rowNumber t k ≡ 0) → length (nodesFrom t k (suc n)) < suc n → (length (nodesFrom t (suc k) n) < n → rowNumber t (suc k + length (nodesFrom t (suc k) n)) ≡ 0)
-          → rowNumber t (k + length (nodesFrom t k (suc n))) ≡ 0
-      go (yes d) h r = unfold nodesFrom in let z : k + 0 ≡ k = omega arith in rw (eq-eqb (rowNumber t k) 0 d) (ap (rowNumber t) z ∙ d)
-      go (no d) h r =
-          unfold nodesFrom in
-          let z : k + suc (length (nodesFrom t (suc k) n)) ≡ suc k + length (nodesFrom t (suc k) n) = omega arith in
-          rw (ne-eqb (rowNumber t k) 0 d) (ap (rowNumber t) z ∙ r (omega (arith, rw (ne-eqb (rowNumber t k) 0 d) at h)))
-
   -- A table without a fault: behind a row without a number there is no node.
   module _ (faultless : firstFault t ≡ none) where
-    still-zero : (i k : ℕ) → i ≤ k → k < nodeRows → rowNumber t i ≡ 0 → rowNumber t k ≡ 0
-    still-zero i k l h e = go (ℕ-discrete (rowNumber t k) 0) (ℕ-discrete i k)
-      where
-        clean : faulty t k ≡ false
-        clean = unfold firstFault in none-from (faulty t) nodeRows 0 k faultless (omega arith) (omega arith)
-
-        go : Dec (rowNumber t k ≡ 0) → Dec (i ≡ k) → rowNumber t k ≡ 0
-        go (yes d) s = d
-        go (no d) (yes s) = ap (rowNumber t) (sym s) ∙ e
-        go (no d) (no s) = absurd (not-before t 0 k i (with-number t k clean d .2) (omega arith) e)
-
-    last-zero : length (nodesIn t) < nodeRows → rowNumber t (length (nodesIn t)) ≡ 0
-    unfolding nodesIn
-    last-zero h = ap (rowNumber t) (sym (zero-add (length (nodesFrom t 0 nodeRows)))) ∙ end-row nodeRows 0 h
-
     pub row-node : (k : ℕ) → nodeAt t k ≡ nth (nodesIn t) k
     row-node k = row-place k (go (decLt k nodeRows))
       where
         go : Dec (k < nodeRows) → length (nodesIn t) ≤ k → nodeAt t k ≡ none
-        go (yes h) l = sym (node-zero t k size h (still-zero (length (nodesIn t)) k l h (last-zero (omega arith))))
+        go (yes h) l = sym (node-zero t k size h (still-zero t faultless (length (nodesIn t)) k l h (last-zero t (omega arith))))
         go (no h) l = sym (node-behind t k size (omega arith))
 
 -- The code's answer taken apart.

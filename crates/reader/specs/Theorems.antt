@@ -1,11 +1,12 @@
 -- What a reader gives: by number, and from the start on.
-use Prim.Native.Nat.{ℕ, zero, suc, _+_, _-_, _<_, _≤_}
+use Prim.Native.Nat.{ℕ, zero, suc, _+_, _<_, _≤_}
 use mathlib.Core.Path.{_≡_, refl, sym, _∙_, ap, ap₂}
 use mathlib.Core.Bool.{Bool, true, false, cond}
 use mathlib.Core.Option.{Option, none, some}
 use mathlib.Core.List.{List, [], _∷_, _++_, map}
 use native.Mathlib.Decide.{ℕ-discrete, decLt}
 use native.Mathlib.Nat.{zero-add}
+use native.Mathlib.Numerals.{add-one}
 use native.Mathlib.Omega.{arith}
 use lib.Dec.{eqb}
 use lib.ListN.{length, replicate}
@@ -17,14 +18,14 @@ use Rattle.tables.specs.Definitions.Tables.{nodesIn, firstFault}
 use Rattle.tables.specs.Laws.Rows.{and-split}
 use Rattle.tables.specs.Laws.Accepted.{room}
 use Rattle.reader.specs.Definitions.{nth, numbered, missing, sound, readable, refusedRow, startRow, rowAfter, nodeAt, nodeOf}
-use Rattle.reader.specs.Laws.{after-refused, after-end, after-more, start-refused, start-first, node-length, node-behind, of-length, of-refused, of-nodes, nth-behind, numbered-empty, row-node}
+use Rattle.reader.specs.Laws.{after-refused, after-read, after-none, after-again, start-refused, start-first, node-length, node-behind, of-length, of-refused, of-nodes, nth-behind, numbered-empty, row-node}
 
 -- A sound table, as the definition of a faulty row puts it.
-pub record Sound (t : List ℕ) : Type 0 where
+record Sound (t : List ℕ) : Type 0 where
   pub size : length t ≡ tableSize
   pub faultless : firstFault t ≡ none
 
-pub sound-is : (t : List ℕ) → sound t ≡ true → Sound t
+sound-is : (t : List ℕ) → sound t ≡ true → Sound t
 sound-is t e = unfold sound in
     let s = and-split (eqb (length t) tableSize) (missing (firstFault t)) e in
     record { size = eqb-true (length t) tableSize (s .0); faultless = go (firstFault t) (s .1) }
@@ -70,12 +71,11 @@ module _ (t : List ℕ) where
     where
       go : Dec (nodeRows < k) → nodeAt t (rowAfter 0 k) ≡ nth (nodesIn t) k
       go (yes h) =
-          ap (nodeAt t) (sym (after-end 0 k (omega arith) (omega arith)))
-          ∙ sym (node-behind t nodeRows (s .size) (omega arith))
+          sym (node-behind t (rowAfter 0 k) (s .size) (omega (arith, after-read 0 k (omega arith))))
           ∙ sym (nth-behind (nodesIn t) k (omega (arith, room t)))
       go (no h) =
-          ap (nodeAt t) (sym (after-more 0 k (omega arith) (omega arith)) ∙ zero-add k)
-          ∙ row-node t (s .size) (s .faultless) k
+          let e : rowAfter 0 k ≡ k = omega (arith, after-read 0 k (omega arith)) in
+          ap (nodeAt t) e ∙ row-node t (s .size) (s .faultless) k
 
   pub read-on : (k : ℕ) → nodeAt t (rowAfter (startRow t) k) ≡ nth (readable t) k
   read-on k = go (sound t) refl
@@ -87,64 +87,42 @@ module _ (t : List ℕ) where
           ∙ ap (λ (A : List Node). nth A k) (sym (readable-sound e))
       go false e =
           ap (λ (i : ℕ). nodeAt t (rowAfter i k)) (sym (start-refused t e))
-          ∙ ap (nodeAt t) (sym (after-refused refusedRow k (omega arith)))
+          ∙ ap (nodeAt t) (after-refused refusedRow k (omega arith))
           ∙ refused-node
           ∙ sym (nth-behind [] k (omega arith))
           ∙ ap (λ (A : List Node). nth A k) (sym (readable-none e))
 
-  -- A search from the start is one among the nodes.
-  pub find-on : (n : ℕ) → nodeOf t (startRow t) n ≡ numbered n (readable t)
-  find-on n = go (sound t) refl
+  -- A search is one among the nodes, however many nodes on from the start the reader is,
+  pub find-on : (k n : ℕ) → nodeOf t (rowAfter (startRow t) k) n ≡ numbered n (readable t)
+  find-on k n = go (sound t) refl
     where
-      go : (b : Bool) → sound t ≡ b → nodeOf t (startRow t) n ≡ numbered n (readable t)
+      go : (b : Bool) → sound t ≡ b → nodeOf t (rowAfter (startRow t) k) n ≡ numbered n (readable t)
       go true e =
-          ap (λ (i : ℕ). nodeOf t i n) (sym (start-first t e))
-          ∙ sym (of-nodes t 0 n (sound-is t e .size) (omega arith))
+          ap (λ (i : ℕ). nodeOf t (rowAfter i k) n) (sym (start-first t e))
+          ∙ sym (of-nodes t (rowAfter 0 k) n (sound-is t e .size) (omega (arith, after-read 0 k (omega arith))))
           ∙ ap (numbered n) (sym (readable-sound e))
       go false e =
-          ap (λ (i : ℕ). nodeOf t i n) (sym (start-refused t e))
+          ap (λ (i : ℕ). nodeOf t (rowAfter i k) n) (sym (start-refused t e))
+          ∙ ap (λ (i : ℕ). nodeOf t i n) (after-refused refusedRow k (omega arith))
           ∙ refused-number n
           ∙ sym (numbered-empty n)
           ∙ ap (numbered n) (sym (readable-none e))
+
+  -- and so is one from the start.
+  pub find-first : (n : ℕ) → nodeOf t (startRow t) n ≡ numbered n (readable t)
+  find-first n = ap (λ (i : ℕ). nodeOf t i n) (sym (after-none (startRow t))) ∙ find-on 0 n
 
 -- What reading gives m times from row k on, one node on each time.
 unfoldable pub reads : List ℕ → ℕ → ℕ → List (Option Node)
 reads t k zero = []
 reads t k (suc m) = nodeAt t k ∷ reads t (rowAfter k 1) m
 
-after-none : (k : ℕ) → rowAfter k 0 ≡ k
-after-none k = go (decLt nodeRows k)
-  where
-    go : Dec (nodeRows < k) → rowAfter k 0 ≡ k
-    go (yes h) = sym (after-refused k 0 h)
-    go (no h) = sym (after-more k 0 (omega arith) (omega arith)) ∙ omega arith
-
-after-suc : (k i : ℕ) → rowAfter (rowAfter k i) 1 ≡ rowAfter k (suc i)
-after-suc k i = go (decLt nodeRows k) (decLt (nodeRows - k) i) (decLt (nodeRows - k) (suc i))
-  where
-    go : Dec (nodeRows < k) → Dec (nodeRows - k < i) → Dec (nodeRows - k < suc i) → rowAfter (rowAfter k i) 1 ≡ rowAfter k (suc i)
-    go (yes h) f g = ap (λ (j : ℕ). rowAfter j 1) (sym (after-refused k i h)) ∙ sym (after-refused k 1 h) ∙ after-refused k (suc i) h
-    go (no h) (yes f) g =
-        ap (λ (j : ℕ). rowAfter j 1) (sym (after-end k i (omega arith) f))
-        ∙ sym (after-end nodeRows 1 (omega arith) (omega arith))
-        ∙ after-end k (suc i) (omega arith) (omega arith)
-    go (no h) (no f) (yes g) =
-        ap (λ (j : ℕ). rowAfter j 1) (sym (after-more k i (omega arith) (omega arith)))
-        ∙ sym (after-end (k + i) 1 (omega arith) (omega arith))
-        ∙ after-end k (suc i) (omega arith) g
-    go (no h) (no f) (no g) =
-        let e : k + i + 1 ≡ k + suc i = omega arith in
-        ap (λ (j : ℕ). rowAfter j 1) (sym (after-more k i (omega arith) (omega arith)))
-        ∙ sym (after-more (k + i) 1 (omega arith) (omega arith))
-        ∙ e
-        ∙ after-more k (suc i) (omega arith) (omega arith)
-
 reads-nth : (t : List ℕ) (m i : ℕ) → reads t (rowAfter (startRow t) i) m ≡ tabulate (nth (readable t)) i m
 unfolding reads tabulate
 reads-nth t zero i = refl
 reads-nth t (suc m) i =
     ap₂ (λ (o : Option Node) (l : List (Option Node)). o ∷ l) (read-on t i)
-    (ap (λ (k : ℕ). reads t k m) (after-suc (startRow t) i) ∙ reads-nth t m (suc i))
+    (ap (λ (k : ℕ). reads t k m) (after-again (startRow t) i 1 ∙ ap (rowAfter (startRow t)) (add-one i)) ∙ reads-nth t m (suc i))
 
 nths-none : (m i : ℕ) → tabulate (nth []) i m ≡ replicate m none
 unfolding tabulate nth

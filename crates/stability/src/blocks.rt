@@ -30,9 +30,15 @@ pub fn part(r: Range, g: usize) -> Range
 {
     let first = r.from + g * matching::sizes::BLOCK;
     if r.to - first < matching::sizes::BLOCK {
-        return Range { from: first, to: r.to };
+        return Range {
+            from: first,
+            to: r.to,
+        };
     }
-    Range { from: first, to: first + matching::sizes::BLOCK }
+    Range {
+        from: first,
+        to: first + matching::sizes::BLOCK,
+    }
 }
 
 fn lesser(m: u32, n: u32) -> u32

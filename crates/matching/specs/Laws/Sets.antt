@@ -36,10 +36,6 @@ module _ (s : Spans) (ns : List ℕ) (at : List (List ℤ)) (cs : List ℕ) (m :
   unfolding nodesOn
   on-length = tabulate-length (nodeIn ns at cs) (range s m .from) (range s m .to - range s m .from)
 
-  pub on-get : (i : ℕ) (d : Node) → i < range s m .to - range s m .from → getD (nodesOn s ns at cs m) i d ≡ nodeIn ns at cs (range s m .from + i)
-  unfolding nodesOn
-  on-get i d h = tabulate-get (nodeIn ns at cs) (range s m .from) (range s m .to - range s m .from) i d h
-
 -- A row written is there, and the others stay.
 pub written-at : (L : List (List ℕ)) (j : ℕ) (x : List ℕ) → j < length L → linkIn (set L j x) j ≡ linkOf x
 written-at L j x h = ap linkOf (getD-set-same L j x [] h)

@@ -36,7 +36,7 @@ use denote.Triple.Walked.{says, Stays, stay-none, stay-none-slice, walkOf, goes-
 use denote.Exit.{yes}
 use denote.Triple.Clauses.{ensured, lasts}
 use Rattle.reader.specs.Definitions.{numbered, readable, nodeOf, foundOf}
-use Rattle.reader.specs.Theorems.{find-on}
+use Rattle.reader.specs.Theorems.{find-first}
 use Rattle.reader.specs.declared.Reader.{Reader}
 use Rattle.reader.specs.declared.Found.{Found}
 use Rattle.reader.proofs.Reader as T
@@ -99,7 +99,7 @@ module _ {M : Type 1} (𝓤 : URA M) (H : Heap 𝓤) (A : Atoms 𝓤) (W : Given
       f
       ∙ ap (λ (x : RefT (List ℕ)). foundOf (nodeOf (now x) (r .row) n)) (e .0)
       ∙ ap (λ (k : ℕ). foundOf (nodeOf (now s) k n)) (e .1)
-      ∙ ap foundOf (find-on (now s) n)
+      ∙ ap foundOf (find-first (now s) n)
 
   exits : (t : Found) (u : Val) → t ≡ found → ent 𝓤 (⋆ 𝓤 H A (‵ (S.the-row .own t (u ∷ [])) ∷ (‵ (flft κ q) ⊛ ‵ ftrue) ∷ ‵ (Lent κ s) ∷ [])) (Post u)
   exits t u e =
