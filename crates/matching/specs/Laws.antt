@@ -1,5 +1,6 @@
 -- Laws that the theorems and the code's proofs lean on.
 pub mod Lists
+pub mod Loops
 pub mod Order
 pub mod Distance
 pub mod Left
@@ -15,5 +16,4 @@ pub mod Split
 pub mod Without
 pub mod Amounts
 pub mod Columns
-pub mod Rows
 pub mod Spent

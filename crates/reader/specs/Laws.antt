@@ -12,12 +12,11 @@ use lib.ListN.{length}
 use borrow.Author.Tests.{eq-eqb, ne-eqb, lt-ltb, le-ltb, le-leb, lt-leb}
 use Rattle.matching.specs.Definitions.Nodes.{Node, has, place}
 use Rattle.tables.specs.Definitions.Sizes.{nodeSize, nodeRows, tableSize}
-use Rattle.tables.specs.Definitions.Tables.{nodeFrom, rowNumber, nodesFrom, nodesIn, faulty, firstFault}
+use Rattle.tables.specs.Definitions.Tables.{nodeFrom, rowNumber, nodesFrom, nodesIn, firstFault}
 use Rattle.tables.specs.Definitions.Code.{faultOf}
 use Rattle.tables.specs.declared.faults.Fault.the-variants.{None, Row}
-use Rattle.tables.specs.Laws.Rows.{none-from}
 use Rattle.tables.specs.Laws.Sound.{fault-row, fault-none}
-use Rattle.tables.specs.Laws.Accepted.{with-number, not-before}
+use Rattle.tables.specs.Laws.Accepted.{last-zero, still-zero}
 use Rattle.tables.specs.Laws.Find.{RowOf}
 use Rattle.reader.specs.declared.Node.{Node as Held}
 use Rattle.reader.specs.declared.Found.the-variants.{Nothing, One}
@@ -177,40 +176,13 @@ module _ (t : List ℕ) (size : length t ≡ tableSize) where
           ap (nodeAt t) (w .is h) ∙ row-place (place n (nodesIn t)) (λ l. absurd (omega (arith, p .within))) ∙ p .node
       go (no h) = sym (node-behind t r size (omega arith)) ∙ sym (numbered-none n (nodesIn t) (w .known ∙ le-ltb r nodeRows (omega arith)))
 
-  end-row : (n k : ℕ) → length (nodesFrom t k n) < n → rowNumber t (k + length (nodesFrom t k n)) ≡ 0
-  end-row zero k h = absurd (omega arith)
-  end-row (suc n) k h = go (ℕ-discrete (rowNumber t k) 0) h (end-row n (suc k))
-    where
-      go : Dec (rowNumber t k ≡ 0) → length (nodesFrom t k (suc n)) < suc n → (length (nodesFrom t (suc k) n) < n → rowNumber t (suc k + length (nodesFrom t (suc k) n)) ≡ 0)
-          → rowNumber t (k + length (nodesFrom t k (suc n))) ≡ 0
-      go (yes d) h r = unfold nodesFrom in let z : k + 0 ≡ k = omega arith in rw (eq-eqb (rowNumber t k) 0 d) (ap (rowNumber t) z ∙ d)
-      go (no d) h r =
-          unfold nodesFrom in
-          let z : k + suc (length (nodesFrom t (suc k) n)) ≡ suc k + length (nodesFrom t (suc k) n) = omega arith in
-          rw (ne-eqb (rowNumber t k) 0 d) (ap (rowNumber t) z ∙ r (omega (arith, rw (ne-eqb (rowNumber t k) 0 d) at h)))
-
   -- A table without a fault: behind a row without a number there is no node.
   module _ (faultless : firstFault t ≡ none) where
-    still-zero : (i k : ℕ) → i ≤ k → k < nodeRows → rowNumber t i ≡ 0 → rowNumber t k ≡ 0
-    still-zero i k l h e = go (ℕ-discrete (rowNumber t k) 0) (ℕ-discrete i k)
-      where
-        clean : faulty t k ≡ false
-        clean = unfold firstFault in none-from (faulty t) nodeRows 0 k faultless (omega arith) (omega arith)
-
-        go : Dec (rowNumber t k ≡ 0) → Dec (i ≡ k) → rowNumber t k ≡ 0
-        go (yes d) s = d
-        go (no d) (yes s) = ap (rowNumber t) (sym s) ∙ e
-        go (no d) (no s) = absurd (not-before t 0 k i (with-number t k clean d .2) (omega arith) e)
-
-    last-zero : length (nodesIn t) < nodeRows → rowNumber t (length (nodesIn t)) ≡ 0
-    unfolding nodesIn
-    last-zero h = ap (rowNumber t) (sym (zero-add (length (nodesFrom t 0 nodeRows)))) ∙ end-row nodeRows 0 h
-
     pub row-node : (k : ℕ) → nodeAt t k ≡ nth (nodesIn t) k
     row-node k = row-place k (go (decLt k nodeRows))
       where
         go : Dec (k < nodeRows) → length (nodesIn t) ≤ k → nodeAt t k ≡ none
-        go (yes h) l = sym (node-zero t k size h (still-zero (length (nodesIn t)) k l h (last-zero (omega arith))))
+        go (yes h) l = sym (node-zero t k size h (still-zero t faultless (length (nodesIn t)) k l h (last-zero t (omega arith))))
         go (no h) l = sym (node-behind t k size (omega arith))
 
 -- The code's answer taken apart.

@@ -1,6 +1,7 @@
 -- How bytes, nodes and links fit.
 pub mod Fields
 pub mod Rows
+pub mod RowsRead
 pub mod Tables
 pub mod Accepted
 pub mod Faultless

@@ -1,16 +1,15 @@
 -- Limits that shut every pair, and limits carried over to rows in another order.
 use Prim.Native.Nat.{ℕ, _+_, _≤_, _<_}
 use mathlib.Core.Path.{_≡_}
-use mathlib.Core.List.{List, [], _∷_}
+use mathlib.Core.List.{List}
 use native.Mathlib.Omega.{arith}
-use borrow.Author.Tests.{le-ltb}
 use lib.IntN.{ℤ, pos}
 use lib.ListN.{length, getD}
 use Rattle.join.specs.Sizes.{masterRows}
 use Rattle.join.specs.Rows.{gap}
 use Rattle.join.specs.Nearest.{across}
-use Rattle.join.proofs.Laws.Pairs.{gap-swap}
-use Rattle.verify.specs.Open.{late, Shut}
+use Rattle.matching.specs.Laws.Distance.{distance-swap}
+use Rattle.verify.specs.Open.{late, Shut, late-one}
 
 -- Limits of all rows of two masters with respect to which no pair is open.
 pub record Barred (an : List ℕ) (ax ay : List ℤ) (af ah bn : List ℕ) (bx by : List ℤ) (bf bh : List ℕ) : Type 0 where
@@ -33,14 +32,12 @@ pub record Carried (ns : List ℕ) (xs ys : List ℤ) (far high ms : List ℕ) (
 
 -- The limit (0, 0) shuts all pairs.
 pub none-ahead : (d n f g : ℕ) → f ≡ 0 → g ≡ 0 → d + late n g ≤ f → ⊥
-none-ahead d n f g ef eg h =
-    let l : late n g ≡ 1 = rw (le-ltb n g (omega arith)) in
-    omega arith
+none-ahead d n f g ef eg h = omega (arith, late-one n g (omega arith))
 
 -- Distances are the same from either end.
 across-swap : (xs ys kx ky : List ℤ) (t k : ℕ) → across xs ys kx ky t k ≡ across kx ky xs ys k t
 unfolding across gap
-across-swap xs ys kx ky t k = gap-swap (getD xs t (pos 0) ∷ getD kx k (pos 0) ∷ []) (getD ys t (pos 0) ∷ getD ky k (pos 0) ∷ []) 0 1
+across-swap xs ys kx ky t k = distance-swap (getD xs t (pos 0)) (getD ys t (pos 0)) (getD kx k (pos 0)) (getD ky k (pos 0))
 
 -- A pair is shut seen from either master.
 pub shut-swap : (an : List ℕ) (ax ay : List ℤ) (af ah bn : List ℕ) (bx by : List ℤ) (bf bh : List ℕ) (i j : ℕ)

@@ -4,19 +4,17 @@ use mathlib.Core.Path.{_≡_, refl}
 use mathlib.Core.List.{List}
 use mathlib.Core.Bool.{Bool, true, false}
 use mathlib.Core.Logic.{_⊎_, inl, inr}
-use native.Mathlib.Decide.{ℕ-discrete, decLt}
+use native.Mathlib.Decide.{decLt}
 use native.Mathlib.Nat.{le-trans}
 use native.Mathlib.Omega.{arith}
 use lib.Dec.{leb→le, le→leb}
 use lib.IntN.{ℤ, pos, negsuc, _-ℤ_, natAbs}
 use lib.ListN.{getD}
 use lib.Signed.{ltZ, _≤ℤ_, ≤ℤ-refl}
-use mir.Syntax.{w16}
-use mir.Val.{toZ, ofZ, SFits}
-use mir.Facts.{toZ-ofZ}
 use borrow.Author.Tests.{lt-ltb, le-ltb, ltb-true, ltb-false}
-use Rattle.matching.specs.Definitions.Columns.{edge}
-use Rattle.bounds.specs.Boxes.{Within, Farther, Among, Between, Clamped}
+use Rattle.matching.specs.Definitions.Columns.{Inside}
+use Rattle.matching.specs.Laws.Loops.{from-more}
+use Rattle.bounds.specs.Boxes.{Within, Farther, Among, Between, Clamped, Clear, Gap}
 
 -- A position on a scale whose zero is at n.
 abbrev place : ℕ → ℤ → ℕ
@@ -28,14 +26,6 @@ le-place n (pos a) (pos b) h = omega (arith, leb→le a b (h .le))
 le-place n (pos a) (negsuc b) h = absurd (h .le)
 le-place n (negsuc a) (pos b) h = omega arith
 le-place n (negsuc a) (negsuc b) h = omega (arith, leb→le b a (h .le))
-
--- A position inside is read back from its 16 bits.
-pub back : (z : ℤ) → natAbs z ≤ edge → toZ w16 (ofZ w16 z) ≡ z
-back z h = toZ-ofZ (fits z h)
-  where
-    fits : (z : ℤ) → natAbs z ≤ edge → SFits w16 z
-    fits (pos n) h = record { sfits = omega arith }
-    fits (negsuc n) h = record { sfits = omega arith }
 
 -- What a test of two positions says.
 pub le-lt : (x y : ℤ) → ltZ x y ≡ true → x ≤ℤ y
@@ -63,7 +53,7 @@ pub within-refl : (above : Bool) (p : ℤ) → Within above p p
 within-refl true p = ≤ℤ-refl p
 within-refl false p = ≤ℤ-refl p
 
-pub within-then : (above : Bool) (p q r : ℤ) → Within above p q → Within above q r → Within above p r
+within-then : (above : Bool) (p q r : ℤ) → Within above p q → Within above q r → Within above p r
 within-then true p q r h k = le-then r q p k h
 within-then false p q r h k = le-then p q r h k
 
@@ -161,10 +151,6 @@ module _ (xs : List ℤ) (first end : ℕ) where
   pub among-start : first < end → Among xs first end (getD xs first (pos 0))
   among-start h = record { at = first; from = omega arith; to = h; is = refl }
 
-  -- What bounds all of them bounds the farthest.
-  pub among-small : (n : ℕ) → ((k : ℕ) → k < end → natAbs (getD xs k (pos 0)) ≤ n) → (r : ℤ) → Among xs first end r → natAbs r ≤ n
-  among-small n all r a = rw (a .is) (all (a .at) (a .to))
-
   module _ (above : Bool) (k : ℕ) (p r : ℤ) (f : Farther above p (getD xs k (pos 0)) r) where
     pub among-on : first ≤ k → k < end → Among xs first end p → Among xs first end r
     among-on l h a = go (f .one)
@@ -174,8 +160,18 @@ module _ (xs : List ℤ) (first end : ℕ) where
         go (inr e) = record { at = k; from = l; to = h; is = e }
 
     pub most-on : ((q : ℕ) → first ≤ q → q < k → Within above p (getD xs q (pos 0))) → (q : ℕ) → first ≤ q → q < k + 1 → Within above r (getD xs q (pos 0))
-    most-on m q a b = go (ℕ-discrete q k)
-      where
-        go : Dec (q ≡ k) → Within above r (getD xs q (pos 0))
-        go (yes e) = rw e (f .as-q)
-        go (no e) = within-then above r p (getD xs q (pos 0)) (f .as-p) (m q a (omega arith))
+    most-on m = from-more _ first k (λ q a b. within-then above r p (getD xs q (pos 0)) (f .as-p) (m q a b)) (f .as-q)
+
+-- Where the rows are inside, so is a corner of their box.
+pub corner-inside : (xs ys : List ℤ) (first end : ℕ) → ((k : ℕ) → k < end → Inside (getD xs k (pos 0)) (getD ys k (pos 0)))
+    → {u v : ℤ} → Among xs first end u → Among ys first end v → Inside u v
+corner-inside xs ys first end all a b = (rw (a .is) (all (a .at) (a .to) .0), rw (b .is) (all (b .at) (b .to) .1))
+
+-- Boxes whose positions are the same.
+pub clear-cong : {x y left right low high x' y' l r b t : ℤ} {n : ℕ} → x' ≡ x → y' ≡ y → l ≡ left → r ≡ right → b ≡ low → t ≡ high
+    → Clear x' y' l r b t n → Clear x y left right low high n
+clear-cong e f g h i j c = rw (e, f, g, h, i, j) at c
+
+pub gap-cong : {l r b t left right low high l' r' b' t' left' right' low' high' : ℤ} {d : ℕ} → l' ≡ l → r' ≡ r → b' ≡ b → t' ≡ t
+    → left' ≡ left → right' ≡ right → low' ≡ low → high' ≡ high → Gap l' r' b' t' left' right' low' high' d → Gap l r b t left right low high d
+gap-cong e f g h i j k m c = rw (e, f, g, h, i, j, k, m) at c

@@ -1,14 +1,15 @@
 -- `bounds::clearance` meets its contract: along each axis the clamped position is nearest, and stays inside. Assumes nothing.
-use mathlib.Core.Path.{_≡_}
+use mathlib.Core.Path.{_≡_, _∙_}
 use native.Mathlib.Nat.{mul-le-mul}
 use native.Mathlib.Omega.{arith}
 use borrow.Author.Needs.{needs}
 use mir.Facts.{toZ-ofZ}
 use Rattle.matching.specs.Definitions.Pairs.{squaredDistance}
 use Rattle.matching.specs.Definitions.Columns.{edge, Inside, Reach}
-use Rattle.matching.specs.Laws.Distance.{inside-reach, distance-fits}
+use Rattle.matching.specs.Laws.Distance.{reach-cong, distance-cong, inside-reach, distance-fits}
+use Rattle.matching.proofs.Laws.Widths.{inside-back}
 use Rattle.bounds.specs.Boxes.{Clamped}
-use Rattle.bounds.proofs.Laws.Places.{back, between-near}
+use Rattle.bounds.proofs.Laws.Places.{between-near}
 use Rattle.bounds.proofs.clearance.Statement.{statement}
 use Rattle.bounds.proofs.clearance.Tie as tie
 
@@ -35,13 +36,13 @@ squared-distance-requires : tie.Need-squared-distance-requires
 squared-distance-requires c κs =
     let f = c .before .before .fits in
     let i = held c in
-    rw (toZ-ofZ (f .x), toZ-ofZ (f .y), back (c .before .clamp .result) (i .0), back (c .clamp2 .result) (omega arith)) (reach c)
+    reach-cong (toZ-ofZ (f .x)) (toZ-ofZ (f .y)) (inside-back (c .before .clamp .result) (i .0)) (inside-back (c .clamp2 .result) (i .1)) (reach c)
 
 is : (c : tie.After-squared-distance) → let s = c .before .before .before .args in c .squared-distance .result ≡ squaredDistance (s .x) (s .y) (c .before .before .clamp .result) (c .before .clamp2 .result)
 is c =
     let f = c .before .before .before .fits in
     let i = held (c .before) in
-    rw (toZ-ofZ (f .x), toZ-ofZ (f .y), back (c .before .before .clamp .result) (i .0), back (c .before .clamp2 .result) (omega arith)) at (c .squared-distance .ensures)
+    c .squared-distance .ensures ∙ distance-cong (toZ-ofZ (f .x)) (toZ-ofZ (f .y)) (inside-back (c .before .before .clamp .result) (i .0)) (inside-back (c .before .clamp2 .result) (i .1))
 
 returns : tie.Need-returns
 returns c = let s = c .before .before .before .args in record {

@@ -4,8 +4,10 @@ use native.Mathlib.Omega.{arith}
 use borrow.Author.Needs.{needs}
 use mir.Facts.{toZ-ofZ}
 use Rattle.matching.specs.Definitions.Columns.{edge, Inside}
+use Rattle.matching.specs.Laws.Distance.{inside-cong}
+use Rattle.matching.proofs.Laws.Widths.{inside-back}
 use Rattle.bounds.specs.Boxes.{Clamped, Clear}
-use Rattle.bounds.proofs.Laws.Places.{back, clamp-near}
+use Rattle.bounds.proofs.Laws.Places.{clamp-near, clear-cong}
 use Rattle.bounds.proofs.gap.Statement.{statement}
 use Rattle.bounds.proofs.gap.Tie as tie
 
@@ -30,13 +32,13 @@ clearance-requires c κs =
     let f = c .before .before .fits in
     let i = held c in
     let p = c .before .before .pre in
-    rw (back (c .before .clamp .result) (i .0), back (c .clamp2 .result) (omega arith), toZ-ofZ (f .left), toZ-ofZ (f .right), toZ-ofZ (f .low), toZ-ofZ (f .high)) (i, p .2, p .3)
+    (inside-cong (inside-back (c .before .clamp .result) (i .0)) (inside-back (c .clamp2 .result) (i .1)) i, inside-cong (toZ-ofZ (f .left)) (toZ-ofZ (f .low)) (p .2), inside-cong (toZ-ofZ (f .right)) (toZ-ofZ (f .high)) (p .3))
 
 clear : (c : tie.After-clearance) → let s = c .before .before .before .args in Clear (c .before .before .clamp .result) (c .before .clamp2 .result) (s .left) (s .right) (s .low) (s .high) (c .clearance .result)
 clear c =
     let f = c .before .before .before .fits in
     let i = held (c .before) in
-    rw (back (c .before .before .clamp .result) (i .0), back (c .before .clamp2 .result) (omega arith), toZ-ofZ (f .left), toZ-ofZ (f .right), toZ-ofZ (f .low), toZ-ofZ (f .high)) at (c .clearance .ensures)
+    clear-cong (inside-back (c .before .before .clamp .result) (i .0)) (inside-back (c .before .clamp2 .result) (i .1)) (toZ-ofZ (f .left)) (toZ-ofZ (f .right)) (toZ-ofZ (f .low)) (toZ-ofZ (f .high)) (c .clearance .ensures)
 
 returns : tie.Need-returns
 returns c = record {

@@ -5,13 +5,14 @@ use mathlib.Core.Bool.{true, false}
 use mathlib.Core.List.{List}
 use native.Mathlib.Decide.{ℕ-discrete, decLt}
 use native.Mathlib.Omega.{arith}
-use lib.IntN.{ℤ, pos, natAbs}
+use borrow.Author.Count.{below-more}
+use lib.IntN.{ℤ, pos}
 use lib.ListN.{length, getD, set, length-set}
 use lib.Seq.{getD-set-same, getD-set-other}
 use Rattle.matching.specs.Definitions.Nodes.{Master, masterA, masterB}
-use Rattle.matching.specs.Definitions.Columns.{edge}
+use Rattle.matching.specs.Definitions.Columns.{Inside}
 use Rattle.bounds.specs.Boxes.{Among, Extreme}
-use Rattle.bounds.proofs.Laws.Places.{among-small}
+use Rattle.bounds.proofs.Laws.Places.{corner-inside}
 use Rattle.join.specs.Sizes.{blockRows, masterBlocks, tableBlocks}
 use Rattle.join.specs.Rows.{Columns, Rows, size, from, to, On, Sound}
 use Rattle.join.specs.Live.{Lists, Sized, rowAt, spotOf, Same, Live, Gathered, Refreshed}
@@ -28,16 +29,13 @@ module _ (ns : List ℕ) (xs ys : List ℤ) (left : List ℕ) (h first end : ℕ
     pub enlisted-on : length E ≡ tableBlocks → start first n < end → (P : Lists) (e : ℕ) → Gathered ns xs ys left (start first n) (stop first end n) Q P e
         → Enlisted ns xs ys left h first end (n + 1) Q₀ E₀ P (set E (h + n) e)
     enlisted-on room less P e g = record {
-      lists = λ i l s. lists i s (ℕ-discrete i n) (omega arith);
+      lists = below-more (λ i. start first i < end → Live ns xs ys left P (start first i) (stop first end i) (getD (set E (h + n) e) (h + i) 0)) n
+          (λ i l s. rw (getD-set-other E (h + n) (h + i) e 0 (λ q. omega arith))
+          (live-same ns xs ys left Q P (start first i) (stop first end i) (getD E (h + i) 0) (λ k a b. g .apart k (λ p q. omega arith)) (c .lists i l s)))
+          (λ s. rw (getD-set-same E (h + n) e 0 (omega (arith, u .short, u .blocks))) (g .live));
       apart = λ k d. same-trans Q₀ Q P k (c .apart k d) (g .apart k (λ a b. d (omega arith) (omega arith)));
       aside = λ b d. getD-set-other E (h + n) b e 0 (λ q. d (omega arith) (omega (arith, u .short))) ∙ c .aside b d;
     }
-      where
-        lists : (i : ℕ) → start first i < end → Dec (i ≡ n) → i < n + 1 → Live ns xs ys left P (start first i) (stop first end i) (getD (set E (h + n) e) (h + i) 0)
-        lists i s (yes d) l = rw (d, getD-set-same E (h + n) e 0 (omega (arith, u .short, u .blocks))) (g .live)
-        lists i s (no d) l =
-            rw (getD-set-other E (h + n) (h + i) e 0 (λ q. d (omega arith)))
-            (live-same ns xs ys left Q P (start first i) (stop first end i) (getD E (h + i) 0) (λ k a b. g .apart k (λ p q. omega arith)) (c .lists i (omega arith) s))
 
     pub enlisted-end : end ≤ start first n → Enlisted ns xs ys left h first end masterBlocks Q₀ E₀ Q E
     enlisted-end done = record { lists = λ i l s. c .lists i (omega arith) s; apart = c .apart; aside = c .aside }
@@ -67,8 +65,8 @@ module _ (ns : List ℕ) (xs ys : List ℤ) where
       → Framed ns xs ys b first end B (boxes (set (B .west) b w) (set (B .east) b e) (set (B .south) b s) (set (B .north) b n) (set (B .least) b m))
   framed B b first end w e s n m c room wide low hw he hs hn hm = record {
     here = record {
-      low = rw (west, south) (across w (hw .among), up s (hs .among));
-      high = rw (east, north) (across e (he .among), up n (hn .among));
+      low = rw (west, south) (corner (hw .among) (hs .among));
+      high = rw (east, north) (corner (he .among) (hn .among));
       within = λ k f g. record {
         west = rw west (hw .most k f g);
         east = rw east (he .most k f g);
@@ -87,11 +85,8 @@ module _ (ns : List ℕ) (xs ys : List ℤ) where
     };
   }
     where
-      across : (z : ℤ) → Among xs first end z → natAbs z ≤ edge
-      across = among-small xs first end edge (λ k h. c .inside k (omega arith) .0)
-
-      up : (z : ℤ) → Among ys first end z → natAbs z ≤ edge
-      up = among-small ys first end edge (λ k h. c .inside k (omega arith) .1)
+      corner : {u v : ℤ} → Among xs first end u → Among ys first end v → Inside u v
+      corner = corner-inside xs ys first end (λ k h. c .inside k (omega arith))
 
       west : getD (set (B .west) b w) b (pos 0) ≡ w
       west = getD-set-same (B .west) b w (pos 0) (omega (arith, wide .in-west))
@@ -116,13 +111,10 @@ module _ (ns : List ℕ) (xs ys : List ℤ) where
     module _ (rows n : ℕ) (B : Boxes) (c : Surveyed ns xs ys h first end n B₀ B) (u : Spans rows h first end) where
       pub surveyed-on : start first n < end → (D : Boxes) → Framed ns xs ys (h + n) (start first n) (stop first end n) B D → Surveyed ns xs ys h first end (n + 1) B₀ D
       surveyed-on less D g = record {
-        boxed = λ i l s. boxed i s (ℕ-discrete i n) (omega arith);
+        boxed = below-more (λ i. start first i < end → Boxed ns xs ys D (h + i) (start first i) (stop first end i)) n
+            (λ i l s. boxed-same ns xs ys B D (h + i) (start first i) (stop first end i) (g .aside (h + i) (λ q. omega arith)) (c .boxed i l s)) (λ s. g .here);
         aside = λ b d. same-box-trans B₀ B D b (c .aside b d) (g .aside b (λ q. d (omega arith) (omega (arith, u .short))));
       }
-        where
-          boxed : (i : ℕ) → start first i < end → Dec (i ≡ n) → i < n + 1 → Boxed ns xs ys D (h + i) (start first i) (stop first end i)
-          boxed i s (yes d) l = rw d (g .here)
-          boxed i s (no d) l = boxed-same ns xs ys B D (h + i) (start first i) (stop first end i) (g .aside (h + i) (λ q. d (omega arith))) (c .boxed i (omega arith) s)
 
       pub surveyed-end : end ≤ start first n → Surveyed ns xs ys h first end masterBlocks B₀ B
       surveyed-end done = record { boxed = λ i l s. c .boxed i (omega arith) s; aside = c .aside }
@@ -136,8 +128,13 @@ module _ (R : Rows) where
   pub in-block : (m : Master) (r : ℕ) → On R m r → (start (from R m) (within m r) ≤ r) × (r < stop (from R m) (to R m) (within m r)) × (start (from R m) (within m r) < to R m)
   in-block m r h = (omega arith, omega arith, omega arith)
 
+  -- A master's rows end where all rows do, or before.
+  pub rows-end : {left : List ℕ} → Sound R left → (o : Master) → to R o ≤ size R
+  rows-end v masterA = v .parts
+  rows-end v masterB = omega arith
+
   -- What holds of the master that has row r, and r's block b.
-  pub by-master : {X : Type 0} (r b : ℕ) → r < size R → Block (R .split) r b → ((m : Master) → On R m r → b ≡ half m + within m r → X) → X
+  by-master : {X : Type 0} (r b : ℕ) → r < size R → Block (R .split) r b → ((m : Master) → On R m r → b ≡ half m + within m r → X) → X
   by-master {X} r b low k f = go (decLt r (R .split))
     where
       go : Dec (r < R .split) → X
@@ -169,10 +166,6 @@ module _ (R : Rows) where
     few : (o : Master) (j : ℕ) → start (from R o) j < to R o → j < masterBlocks
     few o j h = omega (arith, v .masters o)
 
-    ends : (o : Master) → to R o ≤ size R
-    ends masterA = v .parts
-    ends masterB = omega arith
-
     other : (q : ℕ) → (q ≡ row → ⊥) → getD less q 0 ≡ getD left q 0
     other q d = getD-set-other left row q x 0 d
 
@@ -180,27 +173,27 @@ module _ (R : Rows) where
     lower q = go (ℕ-discrete q row)
       where
         go : Dec (q ≡ row) → getD less q 0 ≤ getD left q 0
-        go (yes d) = rw d (omega (arith, getD-set-same left row x 0 (omega (arith, v .len-c, ends m))))
+        go (yes d) = rw d (omega (arith, getD-set-same left row x 0 (omega (arith, v .len-c, rows-end v m))))
         go (no d) = omega (arith, other q d)
 
     abbrev live : Live (R .ns) (R .xs) (R .ys) left Q (start (from R m) i) (stop (from R m) (to R m) i) (getD E (half m + i) 0)
     live = k .lists m i (in-block m row on .2)
 
-    pub may-spend : (row < size R) × (spotOf Q row < size R) × (1 ≤ getD E (half m + i) 0) × (getD E (half m + i) 0 ≤ size R) × (rowAt Q (getD E (half m + i) 0 - 1) < size R)
-    may-spend = may-refresh (R .ns) (R .xs) (R .ys) left less Q (start (from R m) i) (stop (from R m) (to R m) i) (getD E (half m + i) 0) row (k .sized) live (omega (arith, ends m)) (in-block m row on .0) (in-block m row on .1) was lower (λ q a b d. other q d)
+    may-spend : (row < size R) × (spotOf Q row < size R) × (1 ≤ getD E (half m + i) 0) × (getD E (half m + i) 0 ≤ size R) × (rowAt Q (getD E (half m + i) 0 - 1) < size R)
+    may-spend = may-refresh (R .ns) (R .xs) (R .ys) left less Q (start (from R m) i) (stop (from R m) (to R m) i) (getD E (half m + i) 0) row (k .sized) live (omega (arith, rows-end v m)) (in-block m row on .0) (in-block m row on .1) was lower (λ q a b d. other q d)
 
-    pub block-low : half m + i < tableBlocks
+    block-low : half m + i < tableBlocks
     block-low = go m (few m i (in-block m row on .2))
       where
         go : (m : Master) → {j : ℕ} → j < masterBlocks → half m + j < tableBlocks
         go masterA h = omega arith
         go masterB h = omega arith
 
-    pub spent : (O : Lists) (e : ℕ) → Refreshed (R .ns) (R .xs) (R .ys) less row (getD E (half m + i) 0) Q O e → Kept R less O (set E (half m + i) e)
+    spent : (O : Lists) (e : ℕ) → Refreshed (R .ns) (R .xs) (R .ys) less row (getD E (half m + i) 0) Q O e → Kept R less O (set E (half m + i) e)
     spent O e f = record { sized = r .2; ends = length-set E (half m + i) e ∙ k .ends; lists = λ o j h. lists o j h (ℕ-discrete (half o + j) (half m + i)) }
       where
         r : Live (R .ns) (R .xs) (R .ys) less O (start (from R m) i) (stop (from R m) (to R m) i) e × ((q : ℕ) → (start (from R m) i ≤ q → q < stop (from R m) (to R m) i → ⊥) → Same Q O q) × Sized O (size R)
-        r = refreshed (R .ns) (R .xs) (R .ys) left less Q (start (from R m) i) (stop (from R m) (to R m) i) (getD E (half m + i) 0) row (k .sized) live (omega (arith, ends m)) (in-block m row on .0) (in-block m row on .1) was lower (λ q a b d. other q d) O e f
+        r = refreshed (R .ns) (R .xs) (R .ys) left less Q (start (from R m) i) (stop (from R m) (to R m) i) (getD E (half m + i) 0) row (k .sized) live (omega (arith, rows-end v m)) (in-block m row on .0) (in-block m row on .1) was lower (λ q a b d. other q d) O e f
 
         lists : (o : Master) (j : ℕ) → start (from R o) j < to R o → Dec (half o + j ≡ half m + i)
             → Live (R .ns) (R .xs) (R .ys) less O (start (from R o) j) (stop (from R o) (to R o) j) (getD (set E (half m + i) e) (half o + j) 0)

@@ -24,7 +24,7 @@ use Rattle.join.proofs.Laws.Pairs.{gap-swap, faces-swap, faces-self, be
 replaced : (ℕ → ℕ) → ℕ → ℕ → ℕ → ℕ
 replaced f n m h = cond (eqb (f h) m) (f n) (f h)
 
-pub pigeonhole : (m n : ℕ) (f : ℕ → ℕ) → ((h : ℕ) → h < n → f h < m) → ((h k : ℕ) → h < k → k < n → f h ≡ f k → ⊥) → n ≤ m
+pigeonhole : (m n : ℕ) (f : ℕ → ℕ) → ((h : ℕ) → h < n → f h < m) → ((h k : ℕ) → h < k → k < n → f h ≡ f k → ⊥) → n ≤ m
 unfolding replaced
 pigeonhole m zero f low new = omega arith
 pigeonhole zero (suc n) f low new = absurd (omega (arith, low 0 (omega arith)))
@@ -55,7 +55,7 @@ pigeonhole (suc m) (suc n) f low new = omega (arith, pigeonhole m n (replaced f 
 
 module _ (R : Rows) (left chain : List ℕ) (n : ℕ) (c : Chain R left chain n) where
   -- No row stands on the chain twice: its nearest would be as early as a pair further up, which comes earlier.
-  pub once : (h k : ℕ) → h < k → k < n → getD chain h 0 ≡ getD chain k 0 → ⊥
+  once : (h k : ℕ) → h < k → k < n → getD chain h 0 ≡ getD chain k 0 → ⊥
   once h k l b e = go (ℕ-discrete k (h + 1))
     where
       row : ℕ → ℕ
@@ -75,7 +75,7 @@ module _ (R : Rows) (left chain : List ℕ) (n : ℕ) (c : Chain R left chain n)
           to : Faces R (row g) (row h)
           to = subst (Faces R (row g)) back (c .facing g (omega arith))
 
-  pub depth-fits : n ≤ size R
+  depth-fits : n ≤ size R
   depth-fits = pigeonhole (size R) n (λ h. getD chain h 0) (c .inside) once
 
 -- Of a chain of at most one row no row has a next one.

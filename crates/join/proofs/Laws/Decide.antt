@@ -9,7 +9,6 @@ use lib.IntN.{pos}
 use lib.ListN.{length, getD}
 use Rattle.matching.specs.Definitions.Nodes.{Master, masterA, masterB, each}
 use Rattle.matching.specs.Definitions.Pairs.{squaredDistance}
-use Rattle.matching.specs.Laws.Distance.{inside-reach, distance-fits}
 use Rattle.matching.specs.Laws.Earliest.{Leq}
 use Rattle.join.specs.declared.nearest.Near.{Near}
 use Rattle.join.specs.declared.chain.Move.{Move}
@@ -21,25 +20,15 @@ use Rattle.join.specs.Live.{Lists, rowAt, spotOf, Holds, Live}
 use Rattle.join.specs.Blocks.{start, stop, half, Spans, Boxes, Boxed}
 use Rattle.join.specs.Nearest.{key, across, Keyed, AtMost, Guards, From, seed, block, Scanned, Partner, Chosen}
 use Rattle.join.specs.Chain.{Begun, Decided, Seeding, Seeded, none, under, Ready}
-use Rattle.join.proofs.Laws.Pairs.{closer, leq-packed, placed, faces-swap}
+use Rattle.join.proofs.Laws.Pairs.{across-fits, closer, leq-packed, placed, faces-swap}
 use Rattle.join.proofs.Laws.Rest.{rest-none}
-use Rattle.join.proofs.Laws.Blocks.{spans, within, in-block}
+use Rattle.join.proofs.Laws.Blocks.{spans, within, in-block, rows-end}
 use Rattle.join.proofs.Laws.Chain.{room}
 
 -- A place is as far as its row.
 across-gap : (R : Rows) (Q : Lists) (t k : ℕ) → Holds (R .ns) (R .xs) (R .ys) Q k → across (R .xs) (R .ys) (Q .kx) (Q .ky) t k ≡ gap (R .xs) (R .ys) t (rowAt Q k)
 unfolding across gap
 across-gap R Q t k h = ap₂ (squaredDistance (getD (R .xs) t (pos 0)) (getD (R .ys) t (pos 0))) (h .x) (h .y)
-
--- No key is the one above every key: no distance is that far.
-across-fits : (R : Rows) (Q : Lists) (t k : ℕ) → Placed (R .xs) (R .ys) t → Placed (Q .kx) (Q .ky) k → across (R .xs) (R .ys) (Q .kx) (Q .ky) t k + 1 < numberRange
-unfolding across
-across-fits R Q t k p q =
-    let x = getD (R .xs) t (pos 0) in
-    let y = getD (R .ys) t (pos 0) in
-    let u = getD (Q .kx) k (pos 0) in
-    let v = getD (Q .ky) k (pos 0) in
-    omega (arith, distance-fits x y u v (inside-reach x y u v (p .inside) (q .inside)))
 
 -- The row that faces one of a master's is the other master's.
 facing : (R : Rows) {t k : ℕ} (o : Master) → Faces R t k → On R o t → On R (other o) k
@@ -49,10 +38,6 @@ facing R masterA (faces masterB a b) g = absurd (omega arith)
 facing R masterB (faces masterA a b) g = absurd (omega arith)
 
 module _ (R : Rows) (left : List ℕ) (Q : Lists) (E : List ℕ) (B : Boxes) (chain : List ℕ) (s : State) (r : Ready R left Q E B chain s) where
-  ends : (o : Master) → to R o ≤ size R
-  ends masterA = r .sound .parts
-  ends masterB = omega arith
-
   -- Place k lists a row of the master's that has something left.
   record Listed (m : Master) (k : ℕ) : Type 0 where
     low : k < size R
@@ -63,7 +48,7 @@ module _ (R : Rows) (left : List ℕ) (Q : Lists) (E : List ℕ) (B : Boxes) (ch
   listed : (m : Master) (i k : ℕ) → start (from R m) i < to R m → start (from R m) i ≤ k → k < getD E (half m + i) 0 → Listed m k
   listed m i k h a b =
       let l = r .kept .lists m i h in record {
-        low = omega (arith, l .high, ends m);
+        low = omega (arith, l .high, rows-end R (r .sound) m);
         holds = l .holds k a b;
         on = (omega (arith, l .on k a b .0), omega (arith, l .on k a b .1));
         alive = l .alive k a b;
@@ -80,13 +65,13 @@ module _ (R : Rows) (left : List ℕ) (Q : Lists) (E : List ℕ) (B : Boxes) (ch
   listed-placed {m} {k} l = record {
     in-x = omega (arith, l .low, r .kept .sized .in-x);
     in-y = omega (arith, l .low, r .kept .sized .in-y);
-    inside = rw (l .holds .x, l .holds .y) (r .sound .columns .inside (rowAt Q k) (omega (arith, l .on .1, ends m)));
+    inside = rw (l .holds .x, l .holds .y) (r .sound .columns .inside (rowAt Q k) (omega (arith, l .on .1, rows-end R (r .sound) m)));
   }
 
   -- The blocks' lists are within their boxes.
   guards : (m : Master) → Guards (Q .kn) (Q .kx) (Q .ky) E B (half m) (from R m) (to R m)
   guards m i h = record {
-    listing = record { low = l .low; room = omega (arith, l .high, ends m, r .kept .sized .in-n); inside = λ k a b. listed-placed (listed m i k h a b) };
+    listing = record { low = l .low; room = omega (arith, l .high, rows-end R (r .sound) m, r .kept .sized .in-n); inside = λ k a b. listed-placed (listed m i k h a b) };
     boxed = record { low = x .low; high = x .high; within = λ k a b. let o = l .holds k a b in rw (o .n, o .x, o .y) (x .within (rowAt Q k) (l .on k a b .0) (l .on k a b .1)) };
   }
     where
@@ -117,7 +102,7 @@ module _ (R : Rows) (left : List ℕ) (Q : Lists) (E : List ℕ) (B : Boxes) (ch
   -- How an empty chain begins.
   pub begun : s .depth ≡ 0 → (m : Move) → Begun (Q .live) E (R .split) m → Decided R left chain (s .depth) m
   begun z Stop f = none-left masterA (λ q h a. let p = place masterA q h a in let i = within R masterA q in omega (arith, p .0, p .1, f i (in-block R masterA q h .2), ap (λ (b : ℕ). getD E b 0) (zero-add i)))
-  begun z (Push w) o = rw (o .is) (record { inside = omega (arith, l .on .1, ends masterA); alive = l .alive; next = λ h d. absurd (omega arith); new = λ h d. absurd (omega arith) })
+  begun z (Push w) o = rw (o .is) (record { inside = omega (arith, l .on .1, rows-end R (r .sound) masterA); alive = l .alive; next = λ h d. absurd (omega arith); new = λ h d. absurd (omega arith) })
     where
       l : Listed masterA (start 0 (o .block))
       l = listed masterA (o .block) (start 0 (o .block)) (o .some) (omega arith) (omega (arith, o .listed, ap (λ (b : ℕ). getD E b 0) (zero-add (o .block))))
@@ -131,7 +116,7 @@ module _ (R : Rows) (left : List ℕ) (Q : Lists) (E : List ℕ) (B : Boxes) (ch
     abbrev lower : ℕ
     lower = getD chain (s .depth - 2) 0
 
-    pub top-low : top < size R
+    top-low : top < size R
     top-low = r .path .inside (s .depth - 1) (omega arith)
 
     pub top-placed : Placed (R .xs) (R .ys) top
@@ -215,7 +200,7 @@ module _ (R : Rows) (left : List ℕ) (Q : Lists) (E : List ℕ) (B : Boxes) (ch
             }
 
         stop-on : w .key ≡ farKey → rest R left ≡ []
-        stop-on e = none-left (other o) (λ k g a. let c = least k g a in omega (arith, e, c, across-fits R Q top (spotOf Q k) top-placed (listed-placed (row-listed (other o) k g a))))
+        stop-on e = none-left (other o) (λ k g a. let c = least k g a in omega (arith, e, c, across-fits (R .xs) (R .ys) (Q .kx) (Q .ky) top (spotOf Q k) top-placed (listed-placed (row-listed (other o) k g a))))
 
         low-on : (w .key ≡ farKey → ⊥) → w .at < size R
         unfolding Best

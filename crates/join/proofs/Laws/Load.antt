@@ -2,9 +2,10 @@
 use Prim.Native.Nat.{ℕ, zero, suc, _+_, _-_, _<_, _≤_}
 use mathlib.Core.Path.{_≡_, refl, sym, _∙_, ap, subst}
 use mathlib.Core.List.{List, _∷_}
-use native.Mathlib.Decide.{ℕ-discrete, decLt}
+use native.Mathlib.Decide.{decLt}
 use native.Mathlib.Nat.{zero-add}
 use native.Mathlib.Omega.{arith}
+use borrow.Author.Count.{below-more}
 use lib.IntN.{ℤ, pos}
 use lib.ListN.{length, getD, set, take, length-set}
 use lib.Seq.{getD-set-same, getD-set-other, getD-take, length-take-le}
@@ -51,7 +52,7 @@ module _ (an : List ℕ) (ax ay : List ℤ) (ac : List ℕ) (at : ℕ) (ns₀ : 
       in-x = simp length-set (l .in-x);
       in-y = simp length-set (l .in-y);
       in-left = simp length-set (l .in-left);
-      here = λ q g. go q g (ℕ-discrete q k);
+      here = below-more (λ q. new (at + q) ≡ nodeAt an ax ay ac q) k (λ q g. other (at + q) (λ d. omega arith) ∙ l .here q g) same;
       ahead = λ q g. other q (λ e. omega arith) ∙ l .ahead q g;
     }
       where
@@ -76,10 +77,6 @@ module _ (an : List ℕ) (ax ay : List ℤ) (ac : List ℕ) (at : ℕ) (ns₀ : 
           y = getD-set-same ys (at + k) (getD ay k (pos 0)) (pos 0) (omega (arith, full .in-y)) t;
           capacity = getD-set-same left (at + k) (getD ac k 0) 0 (omega (arith, full .in-left)) t;
         }
-
-        go : (q : ℕ) → q < k + 1 → Dec (q ≡ k) → new (at + q) ≡ nodeAt an ax ay ac q
-        go q g (yes e) = rw e same
-        go q g (no e) = other (at + q) (λ d. e (omega arith)) ∙ l .here q (omega arith)
 
     pub loaded : length an ≤ k → Loaded an ax ay ac at ns₀ xs₀ ys₀ left₀ ns xs ys left
     loaded h = record { here = λ q g. l .here q (omega arith); ahead = l .ahead }

@@ -3,12 +3,14 @@ use Prim.Native.Nat.{ℕ, _+_, _*_, _<_, _≤_}
 use mathlib.Core.Path.{_≡_, refl, sym, subst}
 use mathlib.Core.Bool.{cond}
 use mathlib.Core.List.{List}
-use native.Mathlib.Decide.{ℕ-discrete, decLt}
+use native.Mathlib.Decide.{decLt}
 use native.Mathlib.Omega.{arith}
 use lib.Dec.{ltb}
 use lib.ListN.{getD}
 use lib.IntN.{ℤ, pos}
+use borrow.Author.Count.{below-more}
 use borrow.Author.Tests.{lt-ltb, le-ltb}
+use Rattle.matching.specs.Laws.Loops.{from-more}
 use Rattle.bounds.specs.Boxes.{Clear}
 use Rattle.join.specs.declared.nearest.Near.{Near}
 use Rattle.join.specs.Sizes.{masterBlocks, numberRange}
@@ -25,14 +27,6 @@ module _ (xs ys : List ℤ) (kn : List ℕ) (kx ky : List ℤ) (t first : ℕ) w
   unfolding nearer
   sought-on k s r w c low v p e = subst (Sought xs ys kn kx ky t first (k + 1) s) (sym e) (go (decLt c (r .key)))
     where
-      -- what holds of the places before and of this one
-      more : (m : ℕ) → ((q : ℕ) → first ≤ q → q < k → AtMost xs ys kn kx ky t q m) → AtMost xs ys kn kx ky t k m → (q : ℕ) → first ≤ q → q < k + 1 → AtMost xs ys kn kx ky t q m
-      more m f g q a b = at (ℕ-discrete q k)
-        where
-          at : Dec (q ≡ k) → AtMost xs ys kn kx ky t q m
-          at (yes d) = rw d g
-          at (no d) = f q a (omega arith)
-
       came : Came xs ys kn kx ky t first k s r → Came xs ys kn kx ky t first (k + 1) s r
       came (kept d) = kept d
       came (found a b d) = found a (omega arith) d
@@ -40,10 +34,10 @@ module _ (xs ys : List ℤ) (kn : List ℕ) (kx ky : List ℤ) (t first : ℕ) w
       go : Dec (c < r .key) → Sought xs ys kn kx ky t first (k + 1) s (cond (ltb c (r .key)) (record { key = c; at = k }) r)
       go (yes l) =
           rw (lt-ltb c (r .key) l)
-          (record { less = omega (arith, v .less); least = more c (λ q a b. omega (arith, v .least q a b)) (omega (arith, p .is)); came = found low (omega arith) p })
+          (record { less = omega (arith, v .less); least = from-more _ first k (λ q a b. omega (arith, v .least q a b)) (omega (arith, p .is)); came = found low (omega arith) p })
       go (no l) =
           rw (le-ltb c (r .key) (omega arith))
-          (record { less = v .less; least = more (r .key) (v .least) (omega (arith, p .is)); came = came (v .came) })
+          (record { less = v .less; least = from-more _ first k (v .least) (omega (arith, p .is)); came = came (v .came) })
 
   -- A block is too far away: no place in its box has a lesser key.
   pub sought-skip : (B : Boxes) (b end d : ℕ) (s : Near) → Boxed kn kx ky B b first end
@@ -64,12 +58,8 @@ module _ (xs ys : List ℤ) (kn : List ℕ) (kx ky : List ℤ) (E : List ℕ) (t
   module _ (n : ℕ) (r : Near) (v : Scanned xs ys kn kx ky E t h first end n s r) where
     -- A block more.
     pub scanned-on : (w : Near) → start first n < end → Sought xs ys kn kx ky t (start first n) (getD E (h + n) 0) r w → Scanned xs ys kn kx ky E t h first end (n + 1) s w
-    scanned-on w some g = record { less = omega (arith, v .less, g .less); least = λ i l o. least i l o (ℕ-discrete i n); came = came (g .came) (v .came) }
+    scanned-on w some g = record { less = omega (arith, v .less, g .less); least = below-more _ n (λ i l o k a b. omega (arith, v .least i l o k a b, g .less)) (λ o. g .least); came = came (g .came) (v .came) }
       where
-        least : (i : ℕ) → i < n + 1 → start first i < end → Dec (i ≡ n) → (k : ℕ) → start first i ≤ k → k < getD E (h + i) 0 → AtMost xs ys kn kx ky t k (w .key)
-        least i l o (yes d) = rw d (g .least)
-        least i l o (no d) = λ k a b. omega (arith, v .least i (omega arith) o k a b, g .less)
-
         came : Came xs ys kn kx ky t (start first n) (getD E (h + n) 0) r w → From xs ys kn kx ky E t h first end s r → From xs ys kn kx ky E t h first end s w
         came (kept d) f = subst (From xs ys kn kx ky E t h first end s) (sym d) f
         came (found a b d) f = block n some a b d

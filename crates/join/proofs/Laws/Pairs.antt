@@ -5,35 +5,43 @@ use mathlib.Core.List.{List}
 use native.Mathlib.Decide.{decLt}
 use native.Mathlib.Omega.{arith}
 use lib.ListN.{length, getD}
-use lib.IntN.{ℤ, pos, negℤ, natAbs, _+ℤ_, _-ℤ_, negℤ-negℤ, negℤ-+ℤ, +ℤ-comm}
+use lib.IntN.{ℤ, pos}
 use lib.Signed.{mag}
 use mir.Syntax.{w16}
 use mir.Val.{toZ, ofZ}
-use mir.Facts.{toZ-ofZ}
 use borrow.Author.Tests.{lt-ltb, le-ltb}
 use Rattle.matching.specs.Definitions.Nodes.{Master, masterA, masterB, each}
-use Rattle.matching.specs.Definitions.Pairs.{Pair, square, Before, nearer, lowerA, lowerB}
-use Rattle.matching.specs.Laws.Distance.{abs-neg}
+use Rattle.matching.specs.Definitions.Pairs.{Pair, Before, nearer, lowerA, lowerB}
+use Rattle.matching.specs.Laws.Distance.{distance-swap, inside-cong, inside-reach, distance-fits}
+use Rattle.matching.proofs.Laws.Widths.{back}
+use Rattle.matching.specs.Definitions.Columns.{Inside}
 use Rattle.matching.specs.Laws.Order.{before-trans, before-irrefl}
 use Rattle.matching.specs.Laws.Earliest.{Leq, strictly, equally}
 use Rattle.join.specs.Sizes.{numberRange}
 use Rattle.join.specs.Rows.{Columns, Placed, Rows, gap, On, Faces, faces, rowPair, between, Sound}
-use Rattle.join.specs.Nearest.{key}
-
--- A position is read back from its 16 bits.
-pub back : (z : ℤ) → mag z < 2 ^ 15 → toZ w16 (ofZ w16 z) ≡ z
-back z h = toZ-ofZ (record { sfits = h })
-
--- Distances are the same from either end.
-flip : (x y : ℤ) → square (x -ℤ y) ≡ square (y -ℤ x)
-flip x y = ap (λ (n : ℕ). n * n) (sym (abs-neg (x -ℤ y)) ∙ ap natAbs (negℤ-+ℤ x (negℤ y) ∙ ap (λ (z : ℤ). negℤ x +ℤ z) (negℤ-negℤ y) ∙ +ℤ-comm (negℤ x) y))
+use Rattle.join.specs.Nearest.{key, across}
 
 pub gap-swap : (xs ys : List ℤ) (i j : ℕ) → gap xs ys i j ≡ gap xs ys j i
 unfolding gap
-gap-swap xs ys i j = ap₂ _+_ (flip (getD xs i (pos 0)) (getD xs j (pos 0))) (flip (getD ys i (pos 0)) (getD ys j (pos 0)))
+gap-swap xs ys i j = distance-swap (getD xs i (pos 0)) (getD ys i (pos 0)) (getD xs j (pos 0)) (getD ys j (pos 0))
+
+-- No squared distance is so far that the key above every key is reached.
+pub across-fits : (xs ys kx ky : List ℤ) (t k : ℕ) → Placed xs ys t → Placed kx ky k → across xs ys kx ky t k + 1 < numberRange
+unfolding across
+across-fits xs ys kx ky t k p q =
+    let x = getD xs t (pos 0) in
+    let y = getD ys t (pos 0) in
+    let u = getD kx k (pos 0) in
+    let v = getD ky k (pos 0) in
+    omega (arith, distance-fits x y u v (inside-reach x y u v (p .inside) (q .inside)))
 
 pub placed : {ns : List ℕ} {xs ys : List ℤ} (k : ℕ) → Columns ns xs ys → k < length ns → Placed xs ys k
 placed k c h = record { in-x = omega (arith, c .len-x); in-y = omega (arith, c .len-y); inside = c .inside k h }
+
+-- A row's position is inside as a callee reads it, too.
+pub placed-back : {xs ys : List ℤ} {k : ℕ} → Placed xs ys k → mag (getD xs k (pos 0)) < 2 ^ 15 → mag (getD ys k (pos 0)) < 2 ^ 15
+    → Inside (toZ w16 (ofZ w16 (getD xs k (pos 0)))) (toZ w16 (ofZ w16 (getD ys k (pos 0))))
+placed-back {xs} {ys} {k} p f g = inside-cong (back (getD xs k (pos 0)) f) (back (getD ys k (pos 0)) g) (p .inside)
 
 -- Order among pairs that share a node: by distance, then by the other number.
 shared : (s : Master) (d n e m z : ℕ) → Leq (key d n) (key e m)

@@ -46,9 +46,6 @@ module _ (ns : List ℕ) (xs ys : List ℤ) where
         alive k a b (yes f) = rw f (omega arith)
         alive k a b (no f) = rw (off (rowAt Q k) (l .on k a b .0) (l .on k a b .1) f) (l .alive k a b)
 
-    P : Lists
-    P = entered ns xs ys Q place last
-
     in-w : place < n
     in-w = omega (arith, listed, l .high)
 

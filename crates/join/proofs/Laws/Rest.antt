@@ -30,7 +30,7 @@ use Rattle.join.specs.Nearest.{Chosen}
 use Rattle.join.proofs.Laws.Pairs.{between-on}
 
 -- A property of all that was tabulated, at one place.
-pub tabulate-at : {X : Type 0} (P : X → Type 0) (f : ℕ → X) (k n i : ℕ) → All P (tabulate f k n) → k ≤ i → i < k + n → P (f i)
+tabulate-at : {X : Type 0} (P : X → Type 0) (f : ℕ → X) (k n i : ℕ) → All P (tabulate f k n) → k ≤ i → i < k + n → P (f i)
 unfolding tabulate
 tabulate-at P f k zero i h l g = absurd (omega arith)
 tabulate-at P f k (suc n) i h l g = go (ℕ-discrete i k) (h .0) (tabulate-at P f (suc k) n i (h .1))
@@ -49,7 +49,7 @@ module _ (ns : List ℕ) (xs ys : List ℤ) where
   differ-later k n d i j a b c e = d i j (omega arith) (omega arith) (omega arith) (omega arith)
 
   -- What a row has left is its node's capacity.
-  pub capacity-row : (ks : List ℕ) (k n i : ℕ) → Differ k n → k ≤ i → i < k + n → capacityOf (tabulate (nodeAt ns xs ys ks) k n) (getD ns i 0) ≡ getD ks i 0
+  capacity-row : (ks : List ℕ) (k n i : ℕ) → Differ k n → k ≤ i → i < k + n → capacityOf (tabulate (nodeAt ns xs ys ks) k n) (getD ns i 0) ≡ getD ks i 0
   unfolding tabulate capacityOf
   capacity-row ks k zero i d l h = absurd (omega arith)
   capacity-row ks k (suc n) i d l h =

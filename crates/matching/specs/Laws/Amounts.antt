@@ -60,7 +60,7 @@ amount-more masterA l K h n m = amount-cons l K h n m
 amount-more masterB l K h n m = amount-cons l K h m n ∙ ap (λ (k : ℕ). k + amountOf K m n) (both-numbers n (l .b) (l .a) m (l .amount))
 
 -- Of nodes with unique numbers, two with the same number are the same.
-pub same-node : {v w : Node} {A : List Node} → List·Memᴰ v A → List·Memᴰ w A → Unique A → v .number ≡ w .number → v ≡ w
+same-node : {v w : Node} {A : List Node} → List·Memᴰ v A → List·Memᴰ w A → Unique A → v .number ≡ w .number → v ≡ w
 same-node (List·Memᴰ·head d) (List·Memᴰ·head e) u h = d ∙ sym e
 same-node {v} {w} (List·Memᴰ·head {x = z} d) (List·Memᴰ·tail i) u h = absurd (all-at (λ y. z .number ≡ y .number → ⊥) (u .0) i (ap (λ (y : Node). y .number) (sym d) ∙ h))
 same-node {v} {w} (List·Memᴰ·tail {x = z} i) (List·Memᴰ·head d) u h = absurd (all-at (λ y. z .number ≡ y .number → ⊥) (u .0) i (ap (λ (y : Node). y .number) (sym d) ∙ sym h))
@@ -83,7 +83,7 @@ module _ (A B : List Node) (ua : Unique A) (ub : Unique B) where
   unique-each masterA = ua
   unique-each masterB = ub
 
-  pub node-number : (s : Master) {p : Pair} (n : Nodes A B p) → numberIn s p ≡ nodeIn s n .number
+  node-number : (s : Master) {p : Pair} (n : Nodes A B p) → numberIn s p ≡ nodeIn s n .number
   unfolding pair
   node-number masterA n = ap (λ (r : Pair). r .a) (n .is-pair)
   node-number masterB n = ap (λ (r : Pair). r .b) (n .is-pair)

@@ -10,7 +10,7 @@ use lib.Dec.{eqb}
 use lib.ListN.{length}
 use borrow.Author.Tests.{eq-eqb, ne-eqb}
 use Rattle.matching.specs.Definitions.Lists.{All}
-use Rattle.matching.specs.Definitions.Nodes.{Master, masterA, masterB, Node, Unique}
+use Rattle.matching.specs.Definitions.Nodes.{Master, masterA, masterB, Node, Absent, Unique}
 use Rattle.matching.specs.Definitions.Pairs.{pair, pairs}
 use Rattle.matching.specs.Definitions.Join.{Left, lesser, taken, consider, earliest, whole}
 use Rattle.matching.specs.Laws.Lists.{all-map, all-true, all-of-map}
@@ -19,7 +19,22 @@ use Rattle.matching.specs.Laws.Earliest.{better, earliest-append, earlie
 use Rattle.matching.specs.Laws.Sorting.{sort, along}
 use Rattle.matching.specs.Laws.Steps.{steps-agree}
 use Rattle.matching.specs.Laws.Without.{pairsFrom, enough-from}
-use Rattle.matching.specs.Laws.Rows.{leftOf, left-tail, left-absent}
+
+-- What the node with number n has left, where ks is what the rows have left.
+unfoldable pub leftOf : List Node → List ℕ → ℕ → ℕ
+leftOf [] ks n = 0
+leftOf (v ∷ A) [] n = 0
+leftOf (v ∷ A) (k ∷ ks) n = cond (eqb (v .number) n) k (leftOf A ks n)
+
+left-tail : (v : Node) (A : List Node) (k : ℕ) (ks : List ℕ) (n : ℕ) → (n ≡ v .number → ⊥) → leftOf (v ∷ A) (k ∷ ks) n ≡ leftOf A ks n
+unfolding leftOf
+left-tail v A k ks n e = rw (ne-eqb (v .number) n (λ d. e (sym d)))
+
+left-absent : (A : List Node) (ks : List ℕ) (n : ℕ) → Absent n A → leftOf A ks n ≡ 0
+unfolding leftOf
+left-absent [] ks n h = refl
+left-absent (v ∷ A) [] n h = refl
+left-absent (v ∷ A) (k ∷ ks) n h = left-tail v A k ks n (h .0) ∙ left-absent A ks n (h .1)
 
 -- The rows that have something left, and what they have.
 unfoldable pub keepNodes : List Node → List ℕ → List Node
@@ -38,7 +53,7 @@ unfolding keepNodes
 keep-none [] = refl
 keep-none (v ∷ A) = refl
 
-pub keep-length : (A : List Node) (ks : List ℕ) → length (keepNodes A ks) ≤ length A
+keep-length : (A : List Node) (ks : List ℕ) → length (keepNodes A ks) ≤ length A
 unfolding keepNodes
 keep-length [] ks = omega arith
 keep-length (v ∷ A) [] = omega arith

@@ -1,11 +1,10 @@
 -- The masters exchanged: the same links with their numbers exchanged; only rows of equal distance may stand in another order. Every node has as much to spare.
-use Prim.Native.Nat.{ℕ, _+_, _*_, _-_}
+use Prim.Native.Nat.{ℕ, _-_}
 use mathlib.Core.Path.{_≡_, refl, sym, _∙_, ap, ap₂}
 use mathlib.Core.Bool.{Bool, true, false, cond, _&&_, and-false, or-false}
 use mathlib.Core.List.{List, [], _∷_, map, List·Memᴰ, Memᴰ·cast, Memᴰ·of-map}
 use native.Mathlib.Omega.{arith}
 use lib.Dec.{eqb, ltb}
-use lib.IntN.{ℤ, negℤ, _+ℤ_, _-ℤ_, natAbs, negℤ-+ℤ, negℤ-negℤ, +ℤ-comm}
 use borrow.Author.Tests.{eq-eqb, le-ltb}
 use Rattle.matching.specs.Definitions.Lists.{All}
 use Rattle.matching.specs.Definitions.Nodes.{Master, masterA, masterB, each, Node, Unique, capacityOf}
@@ -14,18 +13,15 @@ use Rattle.matching.specs.Definitions.Links.{Link, pairOf, amountOf}
 use Rattle.matching.specs.Definitions.Join.{capacities, join, spare}
 use Rattle.matching.specs.Definitions.Stability.{Within, Blocked, Unblocked}
 use Rattle.matching.specs.Laws.Lists.{all-map, all-in, all-at, all-of-map}
-use Rattle.matching.specs.Laws.Distance.{abs-neg}
+use Rattle.matching.specs.Laws.Distance.{distance-swap}
 use Rattle.matching.specs.Laws.Sums.{sum-cong}
 use Rattle.matching.specs.Laws.Amounts.{other, used-sum, carried}
 use Rattle.matching.specs.Theorems.Join.{Nodes, join-nodes, join-separate, join-amounts}
 use Rattle.matching.specs.Theorems.Amounts.{join-within, join-unblocked, join-unique}
 
-abs-swap : (m k : ℤ) → natAbs (m -ℤ k) ≡ natAbs (k -ℤ m)
-abs-swap m k = sym (abs-neg (m -ℤ k)) ∙ ap natAbs (negℤ-+ℤ m (negℤ k) ∙ ap (λ (j : ℤ). negℤ m +ℤ j) (negℤ-negℤ k) ∙ +ℤ-comm (negℤ m) k)
-
-pub distance-comm : (v w : Node) → distance v w ≡ distance w v
+distance-comm : (v w : Node) → distance v w ≡ distance w v
 unfolding distance
-distance-comm v w = ap₂ (λ (m n : ℕ). m * m + n * n) (abs-swap (v .x) (w .x)) (abs-swap (v .y) (w .y))
+distance-comm v w = distance-swap (v .x) (v .y) (w .x) (w .y)
 
 -- The pairs of one node stand in the same order.
 abbrev triple : ℕ → ℕ → ℕ → Pair

@@ -108,7 +108,7 @@ module _ (s : Master) (B : List Node) where
       go t = rw (t .departed, t .is-list) (both (ahead n (t .v) (t .A₁) (t .A₂) (t .is-number) (absent-of-unique (t .A₁) (t .v) (t .A₂) (rw (t .is-list) at u))) (ahead-self (joinFrom s (t .A₁ ++ t .A₂) B)))
 
   -- A change that keeps the number:
-  pub amendment : (A : List Node) (n : ℕ) (f : Node → Node) → ((v : Node) → f v .number ≡ v .number) → Unique A → has n A ≡ true
+  amendment : (A : List Node) (n : ℕ) (f : Node → Node) → ((v : Node) → f v .number ≡ v .number) → Unique A → has n A ≡ true
       → Local (Names s n) (joinFrom s A B) (joinFrom s (amend f n A) B)
   amendment A n f k u i = go (split n A i)
     where

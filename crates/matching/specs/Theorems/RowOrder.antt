@@ -20,7 +20,8 @@ reordered-length (swap v w) = refl
 reordered-length (skip v r) = ap suc (reordered-length r)
 reordered-length (then r s) = reordered-length r ∙ reordered-length s
 
-reordered-all : (P : Node → Type 0) {A C : List Node} → Reordered A C → All P A → All P C
+-- A property of every node is one in any order.
+pub reordered-all : (P : Node → Type 0) {A C : List Node} → Reordered A C → All P A → All P C
 reordered-all P same h = h
 reordered-all P (swap v w) h = (h .1 .0, (h .0, h .1 .1))
 reordered-all P (skip v r) h = (h .0, reordered-all P r (h .1))

@@ -9,7 +9,7 @@ use Rattle.matching.specs.Laws.Columns.{tabulate-length}
 use Rattle.tables.specs.Definitions.Rows.{flat}
 use Rattle.tables.specs.Definitions.Lists.{linksIn}
 use Rattle.tables.specs.Laws.Rows.{flat-append}
-use Rattle.tables.specs.Laws.ListCode.{tabulate-split}
+use Rattle.matching.specs.Laws.Columns.{tabulate-split}
 use Rattle.tables.specs.Laws.ListRead.{LinksRead}
 use Rattle.player.specs.Definitions.Text.{Written}
 use Rattle.player.specs.Definitions.Lines.{linkLine}

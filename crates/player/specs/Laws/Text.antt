@@ -46,7 +46,7 @@ pub length-more : (n : ℕ) → 10 ≤ n → length (decimal n) ≡ length (deci
 length-more n h = ap length (decimal-more n h) ∙ length-append (decimal (n / 10)) (digit (n % 10) ∷ [])
 
 -- How many there are at most.
-pub decimal-length : (k n : ℕ) → n < 10 ^ suc k → length (decimal n) ≤ suc k
+decimal-length : (k n : ℕ) → n < 10 ^ suc k → length (decimal n) ≤ suc k
 decimal-length zero n h = omega (arith, length-one n (omega (arith, h)))
 decimal-length (suc k) n h = go (decLt n 10) (decimal-length k (n / 10) (omega (arith, pow-suc 10 (suc k))))
   where

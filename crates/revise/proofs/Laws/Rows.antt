@@ -2,8 +2,9 @@
 use Prim.Native.Nat.{ℕ, _+_, _-_, _<_, _≤_}
 use mathlib.Core.Path.{_≡_, refl, sym, _∙_, subst}
 use mathlib.Core.List.{List}
-use native.Mathlib.Decide.{ℕ-discrete, decLt}
+use native.Mathlib.Decide.{decLt}
 use native.Mathlib.Omega.{arith}
+use borrow.Author.Count.{below-more}
 use lib.IntN.{ℤ, pos}
 use lib.ListN.{length, getD, set, take}
 use lib.Seq.{getD-set-same, getD-set-other, getD-take, length-take-le}
@@ -18,11 +19,11 @@ module _ (from : List ℤ) (at : ℕ) (old : List ℤ) where
   copied-start = record { here = λ k h. absurd (omega arith); ahead = λ k h. refl }
 
   pub copied-on : (k : ℕ) (new : List ℤ) → Copied from at k old new → at + k < length new → Copied from at (k + 1) old (set new (at + k) (getD from k (pos 0)))
-  copied-on k new c h = record { here = λ q g. go q g (ℕ-discrete q k); ahead = λ q g. getD-set-other new (at + k) q _ _ (λ e. omega arith) ∙ c .ahead q g }
-    where
-      go : (q : ℕ) → q < k + 1 → Dec (q ≡ k) → getD (set new (at + k) (getD from k (pos 0))) (at + q) (pos 0) ≡ getD from q (pos 0)
-      go q g (yes e) = rw e (getD-set-same new (at + k) _ _ h)
-      go q g (no e) = getD-set-other new (at + k) (at + q) _ _ (λ d. e (omega arith)) ∙ c .here q (omega arith)
+  copied-on k new c h = record {
+    here = below-more (λ q. getD (set new (at + k) (getD from k (pos 0))) (at + q) (pos 0) ≡ getD from q (pos 0)) k
+        (λ q g. getD-set-other new (at + k) (at + q) _ _ (λ d. omega arith) ∙ c .here q g) (getD-set-same new (at + k) _ _ h);
+    ahead = λ q g. getD-set-other new (at + k) q _ _ (λ e. omega arith) ∙ c .ahead q g;
+  }
 
 -- A master's positions, copied behind the rows before them.
 pub laid-on : (ns : List ℕ) (ax ay : List ℤ) (at : ℕ) (xs ys xs' ys' : List ℤ)

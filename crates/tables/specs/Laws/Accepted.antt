@@ -2,12 +2,14 @@
 use Prim.Native.Nat.{ℕ, zero, suc, _+_, _*_, _-_, _<_, _≤_}
 use mathlib.Core.Path.{_≡_, refl, sym, _∙_, ap, ap₂}
 use mathlib.Core.Bool.{Bool, true, false, cond, not, _&&_, _||_}
-use mathlib.Core.List.{List, [], _∷_, _++_, append-assoc}
+use mathlib.Core.Option.{none}
+use mathlib.Core.List.{List, [], _∷_, _++_}
 use native.Mathlib.Decide.{ℕ-discrete}
+use native.Mathlib.Nat.{zero-add}
 use native.Mathlib.Omega.{arith}
 use lib.Dec.{leb, eqb}
 use lib.IntN.{natAbs}
-use lib.ListN.{length, drop, length-drop, drop-of-length-le, replicate-append-replicate}
+use lib.ListN.{length, take, drop, take-append-drop, length-drop, drop-of-length-le, replicate-append-replicate}
 use borrow.Author.Tests.{eq-eqb, ne-eqb, eqb-false, leb-true, not-false}
 use Rattle.matching.specs.Definitions.Lists.{All}
 use Rattle.matching.specs.Definitions.Nodes.{Node, Unique}
@@ -17,7 +19,8 @@ use Rattle.tables.specs.Definitions.Rows.{flat, padded}
 use Rattle.tables.specs.Definitions.Tables.{nodeFrom, rowNumber, nodesFrom, nodesIn, nodeBytes, tableBytes, positionGood, capacityGood, fieldsGood, fieldsZero, standsBefore, faulty, firstFault, Accepted, GoodNode, GoodNodes}
 use Rattle.tables.specs.Laws.Fields.{bytes-drop, nat-high, nat-drop}
 use Rattle.tables.specs.Laws.Rows.{or-split, and-split, none-from, zeros}
-use Rattle.tables.specs.Laws.Tables.{node-drop, number-drop, drop-row, nodes-length, row-node, zero-row}
+use Rattle.tables.specs.Laws.RowsRead.{rows-written}
+use Rattle.tables.specs.Laws.Tables.{number-drop, drop-row, nodes-zero, nodes-suc, nodes-length, node-write, zero-row}
 
 -- The fields of a row are those of what stands from there on.
 pub zero-drop : (t : List ℕ) (i : ℕ) → fieldsZero t i ≡ fieldsZero (drop i t) 0
@@ -30,7 +33,7 @@ module _ (t : List ℕ) (k : ℕ) (f : faulty t k ≡ false) where
   unfolding faulty
   without-number e = not-false (fieldsZero t (nodeSize * k)) (rw (eq-eqb (rowNumber t k) 0 e) at f)
 
-  pub with-number : (rowNumber t k ≡ 0 → ⊥) → (fieldsGood t (nodeSize * k) ≡ true) × (standsBefore t k (rowNumber t k) ≡ false) × (standsBefore t k 0 ≡ false)
+  with-number : (rowNumber t k ≡ 0 → ⊥) → (fieldsGood t (nodeSize * k) ≡ true) × (standsBefore t k (rowNumber t k) ≡ false) × (standsBefore t k 0 ≡ false)
   unfolding faulty
   with-number h =
       let a : (not (fieldsGood t (nodeSize * k)) || (standsBefore t k (rowNumber t k) || standsBefore t k 0)) ≡ false = rw (ne-eqb (rowNumber t k) 0 h) at f in
@@ -38,7 +41,7 @@ module _ (t : List ℕ) (k : ℕ) (f : faulty t k ≡ false) where
       let c = or-split (standsBefore t k (rowNumber t k)) (standsBefore t k 0) (b .1) in
       (not-false (fieldsGood t (nodeSize * k)) (b .0), c .0, c .1)
 
-pub not-before : (t : List ℕ) (n j i : ℕ) → standsBefore t j n ≡ false → i < j → rowNumber t i ≡ n → ⊥
+not-before : (t : List ℕ) (n j i : ℕ) → standsBefore t j n ≡ false → i < j → rowNumber t i ≡ n → ⊥
 unfolding standsBefore
 not-before t n zero i e h g = absurd (omega arith)
 not-before t n (suc j) i e h g = go (ℕ-discrete i j) (or-split (eqb (rowNumber t j) n) (standsBefore t j n) e) (not-before t n j i)
@@ -52,7 +55,7 @@ unfolding capacityGood
 capacity-range k h = let s = and-split (leb 1 k) (leb k most) h in (leb-true 1 k (s .0), leb-true k most (s .1))
 
 -- The ranges of a row's fields.
-pub fields-range : (t : List ℕ) (i : ℕ) → fieldsGood t i ≡ true
+fields-range : (t : List ℕ) (i : ℕ) → fieldsGood t i ≡ true
     → (natAbs (positionAt t (i + nodeX)) ≤ farthest) × (natAbs (positionAt t (i + nodeY)) ≤ farthest) × (1 ≤ natAt capacitySize t (i + nodeCapacity)) × (natAt capacitySize t (i + nodeCapacity) ≤ most)
 unfolding fieldsGood positionGood
 fields-range t i h =
@@ -75,24 +78,47 @@ pub room : (t : List ℕ) → length (nodesIn t) ≤ nodeRows
 unfolding nodesIn
 room t = nodes-room t nodeRows 0
 
+-- The row behind its last node has no number,
+end-row : (t : List ℕ) (n k : ℕ) → length (nodesFrom t k n) < n → rowNumber t (k + length (nodesFrom t k n)) ≡ 0
+end-row t zero k h = absurd (omega arith)
+end-row t (suc n) k h = go (ℕ-discrete (rowNumber t k) 0) h (end-row t n (suc k))
+  where
+    go : Dec (rowNumber t k ≡ 0) → length (nodesFrom t k (suc n)) < suc n → (length (nodesFrom t (suc k) n) < n → rowNumber t (suc k + length (nodesFrom t (suc k) n)) ≡ 0)
+        → rowNumber t (k + length (nodesFrom t k (suc n))) ≡ 0
+    go (yes d) h r = unfold nodesFrom in let z : k + 0 ≡ k = omega arith in rw (eq-eqb (rowNumber t k) 0 d) (ap (rowNumber t) z ∙ d)
+    go (no d) h r =
+        unfold nodesFrom in
+        let z : k + suc (length (nodesFrom t (suc k) n)) ≡ suc k + length (nodesFrom t (suc k) n) = omega arith in
+        rw (ne-eqb (rowNumber t k) 0 d) (ap (rowNumber t) z ∙ r (omega (arith, rw (ne-eqb (rowNumber t k) 0 d) at h)))
+
+pub last-zero : (t : List ℕ) → length (nodesIn t) < nodeRows → rowNumber t (length (nodesIn t)) ≡ 0
+unfolding nodesIn
+last-zero t h = ap (rowNumber t) (sym (zero-add (length (nodesFrom t 0 nodeRows)))) ∙ end-row t nodeRows 0 h
+
+-- and in a table without a fault there is none behind a row without one.
+module _ (t : List ℕ) (faultless : firstFault t ≡ none) where
+  all-clean : (k : ℕ) → k < nodeRows → faulty t k ≡ false
+  unfolding firstFault
+  all-clean k g = none-from (faulty t) nodeRows 0 k faultless (omega arith) (omega arith)
+
+  pub still-zero : (i k : ℕ) → i ≤ k → k < nodeRows → rowNumber t i ≡ 0 → rowNumber t k ≡ 0
+  still-zero i k l h e = go (ℕ-discrete (rowNumber t k) 0) (ℕ-discrete i k)
+    where
+      go : Dec (rowNumber t k ≡ 0) → Dec (i ≡ k) → rowNumber t k ≡ 0
+      go (yes d) s = d
+      go (no d) (yes s) = ap (rowNumber t) (sym s) ∙ e
+      go (no d) (no s) = absurd (not-before t 0 k i (with-number t k (all-clean k h) d .2) (omega arith) e)
+
 module _ (t : List ℕ) (h : Accepted t) where
   clean : (k : ℕ) → k < nodeRows → faulty t k ≡ false
-  unfolding firstFault
-  clean k g = none-from (faulty t) nodeRows 0 k (h .faultless) (omega arith) (omega arith)
-
-  still-zero : (k : ℕ) → suc k < nodeRows → rowNumber t k ≡ 0 → rowNumber t (suc k) ≡ 0
-  still-zero k g e = go (ℕ-discrete (rowNumber t (suc k)) 0)
-    where
-      go : Dec (rowNumber t (suc k) ≡ 0) → rowNumber t (suc k) ≡ 0
-      go (yes d) = d
-      go (no d) = absurd (not-before t 0 (suc k) k (with-number t (suc k) (clean (suc k) g) d .2) (omega arith) e)
+  clean = all-clean t (h .faultless)
 
   zeros-from : (n k : ℕ) → k + n ≡ nodeRows → (0 < n → rowNumber t k ≡ 0) → zeros (nodeSize * n) ≡ drop (nodeSize * k) t
   zeros-from zero k e z = let l : length t ≤ nodeSize * k = omega (arith, h .size) in sym (drop-of-length-le t l)
   zeros-from (suc n) k e z =
       ap zeros rows
       ∙ sym (replicate-append-replicate nodeSize (nodeSize * n) 0)
-      ∙ ap (λ (r : List ℕ). zeros nodeSize ++ r) (zeros-from n (suc k) (omega arith) (λ g. still-zero k (omega arith) (z (omega arith))) ∙ sym (drop-row t k))
+      ∙ ap (λ (r : List ℕ). zeros nodeSize ++ r) (zeros-from n (suc k) (omega arith) (λ g. still-zero t (h .faultless) k (suc k) (omega arith) (omega arith) (z (omega arith))) ∙ sym (drop-row t k))
       ∙ zero-row (drop (nodeSize * k) t) (bytes-drop (nodeSize * k) t (h .bytes)) (simp length-drop (omega (arith, h .size)))
       (sym (number-drop t k) ∙ z (omega arith))
       (sym (zero-drop t (nodeSize * k)) ∙ without-number t k (clean k (omega arith)) (z (omega arith)))
@@ -100,34 +126,21 @@ module _ (t : List ℕ) (h : Accepted t) where
       rows : nodeSize * suc n ≡ nodeSize + nodeSize * n
       rows = omega arith
 
-  rows-from : (n k : ℕ) → k + n ≡ nodeRows → flat nodeBytes (nodesFrom t k n) ++ zeros (nodeSize * n - nodeSize * length (nodesFrom t k n)) ≡ drop (nodeSize * k) t
-  unfolding nodesFrom flat
-  rows-from zero k e = let l : length t ≤ nodeSize * k = omega (arith, h .size) in sym (drop-of-length-le t l)
-  rows-from (suc n) k e = go (ℕ-discrete (rowNumber t k) 0) (rows-from n (suc k) (omega arith))
-    where
-      go : Dec (rowNumber t k ≡ 0) → flat nodeBytes (nodesFrom t (suc k) n) ++ zeros (nodeSize * n - nodeSize * length (nodesFrom t (suc k) n)) ≡ drop (nodeSize * suc k) t
-          → flat nodeBytes (cond (eqb (rowNumber t k) 0) [] (nodeFrom t (nodeSize * k) ∷ nodesFrom t (suc k) n))
-          ++ zeros (nodeSize * suc n - nodeSize * length (cond (eqb (rowNumber t k) 0) [] (nodeFrom t (nodeSize * k) ∷ nodesFrom t (suc k) n))) ≡ drop (nodeSize * k) t
-      go (yes d) ih = rw (eq-eqb (rowNumber t k) 0 d) (ap zeros all ∙ zeros-from (suc n) k e (λ g. d))
-        where
-          all : nodeSize * suc n - 0 ≡ nodeSize * suc n
-          all = omega arith
-      go (no d) ih = rw (ne-eqb (rowNumber t k) 0 d)
-          (append-assoc (nodeBytes (nodeFrom t (nodeSize * k))) (flat nodeBytes (nodesFrom t (suc k) n)) (zeros (nodeSize * suc n - nodeSize * suc (length (nodesFrom t (suc k) n))))
-          ∙ ap₂ (λ (v : Node) (r : List ℕ). nodeBytes v ++ r) (node-drop t (nodeSize * k))
-          (ap (λ (m : ℕ). flat nodeBytes (nodesFrom t (suc k) n) ++ zeros m) less ∙ ih ∙ sym (drop-row t k))
-          ∙ row-node (drop (nodeSize * k) t) (bytes-drop (nodeSize * k) t (h .bytes)) (simp length-drop (omega (arith, h .size))))
-        where
-          less : nodeSize * suc n - nodeSize * suc (length (nodesFrom t (suc k) n)) ≡ nodeSize * n - nodeSize * length (nodesFrom t (suc k) n)
-          less = omega arith
-
   -- An accepted table is the table of its nodes.
   pub nodes-table : t ≡ tableBytes (nodesIn t)
   unfolding tableBytes nodesIn padded
-  nodes-table = sym (ap (λ (m : ℕ). flat nodeBytes (nodesFrom t 0 nodeRows) ++ zeros m) rest ∙ rows-from nodeRows 0 refl)
+  nodes-table =
+      sym (take-append-drop (nodeSize * n) t)
+      ∙ ap₂ (λ (u v : List ℕ). u ++ v) (sym rows) (sym (zeros-from (nodeRows - n) n (omega (arith, room t)) (λ g. last-zero t (omega arith))) ∙ ap zeros rest)
     where
-      rest : tableSize - length (flat nodeBytes (nodesFrom t 0 nodeRows)) ≡ nodeSize * nodeRows - nodeSize * length (nodesFrom t 0 nodeRows)
-      rest = omega (arith, nodes-length (nodesFrom t 0 nodeRows))
+      n : ℕ
+      n = length (nodesIn t)
+
+      rows : flat nodeBytes (nodesIn t) ≡ take (nodeSize * n) t
+      rows = rows-written nodeSize nodeBytes nodeFrom numberSize nodesFrom nodes-zero nodes-suc node-write t (h .bytes) nodeRows 0 (λ j g. omega (arith, h .size))
+
+      rest : nodeSize * (nodeRows - n) ≡ tableSize - length (flat nodeBytes (nodesIn t))
+      rest = omega (arith, nodes-length (nodesIn t), room t)
 
   -- What every row with a number is, the nodes are.
   all-nodes : (P : Node → Type 0) (n k : ℕ) → k + n ≤ nodeRows → ((j : ℕ) → k ≤ j → j < nodeRows → (rowNumber t j ≡ 0 → ⊥) → P (nodeFrom t (nodeSize * j))) → All P (nodesFrom t k n)

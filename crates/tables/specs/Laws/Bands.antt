@@ -50,7 +50,7 @@ bands-links la lb ld lm n h =
     ap bandsOf (sym (link-fields la lb ld lm (λ (l : Link). l .distance) ld (λ i. refl) n h))
     ∙ bands-fields (linksOf la lb ld lm n) bandCount 0
 
-pub counts-length : (ds : List ℕ) → length (bandCounts ds) ≡ bandCount
+counts-length : (ds : List ℕ) → length (bandCounts ds) ≡ bandCount
 unfolding bandCounts
 counts-length ds = tabulate-length (bandIn ds) 0 bandCount
 

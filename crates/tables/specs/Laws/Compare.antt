@@ -3,12 +3,12 @@ use Prim.Native.Nat.{ℕ, zero, suc, _+_, _*_, _-_, _/_, _<_, _≤_}
 use mathlib.Core.Path.{_≡_, refl, sym, _∙_, ap, ap₂}
 use mathlib.Core.Bool.{Bool, true, false, not}
 use mathlib.Core.Option.{Option, none, some}
-use mathlib.Core.List.{List, [], _∷_, _++_, append-assoc}
+use mathlib.Core.List.{List}
 use native.Mathlib.Numerals.{add-one}
 use native.Mathlib.Omega.{arith}
 use lib.Dec.{eqb}
 use lib.ListN.{length, getD, take, drop, List·getD-eq-default}
-use lib.Seq.{getD-take, getD-drop, drop-append-add, ext-getD}
+use lib.Seq.{getD-take, getD-drop, ext-getD}
 use borrow.Author.Tests.{eq-eqb, eqb-true, not-false}
 use Rattle.matching.specs.Definitions.Lists.{All}
 use Rattle.matching.specs.Definitions.Links.{Link, sameLink, common}
@@ -23,7 +23,7 @@ use Rattle.tables.specs.Definitions.Rows.{flat, padded, allFrom}
 use Rattle.tables.specs.Definitions.Lists.{linkBytes, listBytes, linkFrom, differs, firstDifference}
 use Rattle.tables.specs.Laws.Fields.{nat-zeros}
 use Rattle.tables.specs.Laws.Rows.{none-from, from-none, zeros, all-from, from-all}
-use Rattle.tables.specs.Laws.Lists.{GoodLink, link-length, list-length, list-bytes, link-drop, link-read}
+use Rattle.tables.specs.Laws.Lists.{GoodLink, list-length, list-bytes, link-at}
 use Rattle.tables.specs.Laws.ListCode.{Long}
 use Rattle.tables.specs.Laws.ListRead.{row-bytes}
 
@@ -78,7 +78,7 @@ module _ (l f : List ℕ) (i : ℕ) where
       at : (j : ℕ) → i ≤ j → j < i + linkSize → getD l j 0 ≡ getD f j 0
       at j a b = sym (byte l j a b) ∙ ap (λ (r : List ℕ). getD r (j - i) 0) rows ∙ byte f j a b
 
-  pub same-rows : Bytes l → Bytes f → i + linkSize ≤ length l → i + linkSize ≤ length f → allFrom same i linkSize ≡ sameLink (linkFrom l i) (linkFrom f i)
+  same-rows : Bytes l → Bytes f → i + linkSize ≤ length l → i + linkSize ≤ length f → allFrom same i linkSize ≡ sameLink (linkFrom l i) (linkFrom f i)
   same-rows bl bf hl hf = go (allFrom same i linkSize) refl (sameLink (linkFrom l i) (linkFrom f i)) refl
     where
       go : (s : Bool) → allFrom same i linkSize ≡ s → (t : Bool) → sameLink (linkFrom l i) (linkFrom f i) ≡ t → s ≡ t
@@ -86,25 +86,14 @@ module _ (l f : List ℕ) (i : ℕ) where
       go false e true d = sym e ∙ bytes-same bl bf hl hf (same-link (linkFrom l i) (linkFrom f i) d)
       go false e false d = refl
 
--- Row k of a list of links is that of its k-th link, and zero behind them.
-row-at : (K : List Link) (m k : ℕ) → All GoodLink K → linkFrom (flat linkBytes K ++ zeros m) (linkSize * k) ≡ getD K k noLink
-unfolding flat
-row-at [] m k g = unfold linkFrom in λ t. record {
-  a = nat-zeros numberSize m (linkSize * k) t;
-  b = nat-zeros numberSize m (linkSize * k + linkB) t;
-  distance = nat-zeros distanceSize m (linkSize * k + linkDistance) t;
-  amount = nat-zeros amountSize m (linkSize * k + linkAmount) t;
+zero-link : (m i : ℕ) → linkFrom (zeros m) i ≡ noLink
+unfolding linkFrom
+zero-link m i = λ t. record {
+  a = nat-zeros numberSize m i t;
+  b = nat-zeros numberSize m (i + linkB) t;
+  distance = nat-zeros distanceSize m (i + linkDistance) t;
+  amount = nat-zeros amountSize m (i + linkAmount) t;
 }
-row-at (l ∷ K) m zero g = rw (append-assoc (linkBytes l) (flat linkBytes K) (zeros m)) (link-read l (flat linkBytes K ++ zeros m) (g .0))
-row-at (l ∷ K) m (suc k) g = rw (append-assoc (linkBytes l) (flat linkBytes K) (zeros m)) (next (flat linkBytes K ++ zeros m) ∙ row-at K m k (g .1))
-  where
-    rows : linkSize * suc k ≡ length (linkBytes l) + linkSize * k
-    rows = omega (arith, link-length l)
-
-    next : (s : List ℕ) → linkFrom (linkBytes l ++ s) (linkSize * suc k) ≡ linkFrom s (linkSize * k)
-    next s = link-drop (linkBytes l ++ s) (linkSize * suc k)
-        ∙ ap (λ (q : List ℕ). linkFrom q 0) (ap (λ (i : ℕ). drop i (linkBytes l ++ s)) rows ∙ drop-append-add (linkBytes l) s (linkSize * k))
-        ∙ sym (link-drop s (linkSize * k))
 
 -- So code compares a row's fields with the link of the columns, and with zeros behind their links.
 module _ (l la lb ld lm : List ℕ) (n k : ℕ) (b : Bytes l) (q : Comparable l la lb ld lm n) (low : k < linkRows) (t : Bool) where
@@ -115,14 +104,15 @@ module _ (l la lb ld lm : List ℕ) (n k : ℕ) (b : Bytes l) (q : Comparable l 
   unfolding linksOf
   count = tabulate-length (linkAt la lb ld lm) 0 n
 
+  row : linkFrom (listBytes K) (linkSize * k) ≡ getD K k noLink
+  unfolding listBytes padded
+  row = let m : ℕ = listSize - length (flat linkBytes K) in link-at K (zeros m) k noLink (q .good) (zero-link m)
+
   row-differs : (v : Link) → getD K k noLink ≡ v → t ≡ sameLink (linkFrom l (linkSize * k)) v → not t ≡ differs l (listBytes K) k
   unfolding differs
   row-differs v at e =
       ap not (e ∙ ap (sameLink (linkFrom l (linkSize * k))) (sym (row ∙ at))
       ∙ sym (same-rows l (listBytes K) (linkSize * k) b (list-bytes K) (omega (arith, q .size)) (omega (arith, list-length K (omega (arith, q .room, count))))))
-    where
-      row : linkFrom (listBytes K) (linkSize * k) ≡ getD K k noLink
-      row = unfold listBytes padded in row-at K (listSize - length (flat linkBytes K)) k (q .good)
 
   pub link-differs : k < n → t ≡ sameLink (linkFrom l (linkSize * k)) (linkAt la lb ld lm k) → not t ≡ differs l (listBytes K) k
   link-differs i = row-differs (linkAt la lb ld lm k) (unfold linksOf in tabulate-get (linkAt la lb ld lm) 0 n k noLink i ∙ ap (linkAt la lb ld lm) first)

@@ -33,7 +33,7 @@ pub record Decoded (t ns : List ℕ) (xs ys : List ℤ) (ks : List ℕ) (r : ℕ
   pub nodes : tabulate (nodeAt ns xs ys ks) 0 r ≡ nodesIn t
 
 module _ {ns : List ℕ} {xs ys : List ℤ} {ks ns' : List ℕ} {xs' ys' : List ℤ} {ks' : List ℕ} {k : ℕ} {v : Node} where
-  pub stored-rooms : Stored k v ns xs ys ks ns' xs' ys' ks' → Rooms ns xs ys ks → Rooms ns' xs' ys' ks'
+  stored-rooms : Stored k v ns xs ys ks ns' xs' ys' ks' → Rooms ns xs ys ks → Rooms ns' xs' ys' ks'
   stored-rooms s r = (
     ap length (s .numbers) ∙ length-set ns k (v .number) ∙ r .0,
     ap length (s .across) ∙ length-set xs k (v .x) ∙ r .1,
@@ -42,7 +42,7 @@ module _ {ns : List ℕ} {xs ys : List ℤ} {ks ns' : List ℕ} {xs' ys' : List 
   )
 
   -- One node more.
-  pub stored-more : Stored k v ns xs ys ks ns' xs' ys' ks' → Rooms ns xs ys ks → k < nodeRows
+  stored-more : Stored k v ns xs ys ks ns' xs' ys' ks' → Rooms ns xs ys ks → k < nodeRows
       → tabulate (nodeAt ns' xs' ys' ks') 0 (k + 1) ≡ tabulate (nodeAt ns xs ys ks) 0 k ++ (v ∷ [])
   stored-more s r h =
       rw (add-one k)

@@ -7,13 +7,15 @@ use native.Mathlib.Nat.{pow-succ'}
 use native.Mathlib.Omega.{arith}
 use lib.Dec.{ltb}
 use lib.IntN.{ℤ, pos, negsuc, natAbs}
-use lib.ListN.{length, getD, take, drop, replicate}
+use lib.ListN.{length, getD, take, drop, replicate, length-drop}
+use lib.Seq.{take-add, drop-drop}
 use borrow.Author.Tests.{lt-ltb, le-ltb}
+use Rattle.matching.specs.Laws.Lists.{all-append}
 use Rattle.tables.specs.Definitions.Sizes.{farthest}
 use Rattle.tables.specs.Definitions.Fields.{Bytes, natAt, natBytes, signed, unsigned}
 
 -- Bytes.
-pub byte-at : (xs : List ℕ) → Bytes xs → (i : ℕ) → getD xs i 0 < 256
+byte-at : (xs : List ℕ) → Bytes xs → (i : ℕ) → getD xs i 0 < 256
 byte-at [] h i = omega arith
 byte-at (x ∷ xs) h zero = h .0
 byte-at (x ∷ xs) h (suc i) = byte-at xs (h .1) i
@@ -86,16 +88,35 @@ nat-write (suc w) (x ∷ xs) h l = ap₂ (λ (y : ℕ) (ys : List ℕ). y ∷ ys
     high : (x + 256 * natAt w (x ∷ xs) 1) / 256 ≡ natAt w xs 0
     high = omega (arith, h .0, nat-tail w x xs 0)
 
--- Zero bytes are the number 0, and no others are.
+-- Zero bytes are the number 0.
 pub nat-zeros : (w m i : ℕ) → natAt w (replicate m 0) i ≡ 0
 unfolding natAt
 nat-zeros zero m i = refl
 nat-zeros (suc w) m i = omega (arith, getD-zeros m i, nat-zeros w m (suc i))
 
-pub zero-bytes : (w : ℕ) → natBytes w 0 ≡ replicate w 0
-unfolding natBytes
-zero-bytes zero = refl
-zero-bytes (suc w) = ap (λ (r : List ℕ). 0 ∷ r) (zero-bytes w)
+-- Four fields, one after the other: a node's row is such, and a link's.
+module _ (a b c d : ℕ) where
+  pub four-bytes : (x y z u : ℕ) → Bytes (natBytes a x ++ (natBytes b y ++ (natBytes c z ++ natBytes d u)))
+  four-bytes x y z u =
+      all-append (λ n. n < 256) (natBytes a x) (natBytes b y ++ (natBytes c z ++ natBytes d u)) (nat-bytes a x)
+      (all-append (λ n. n < 256) (natBytes b y) (natBytes c z ++ natBytes d u) (nat-bytes b y)
+      (all-append (λ n. n < 256) (natBytes c z) (natBytes d u) (nat-bytes c z) (nat-bytes d u)))
+
+  -- Read at i, j, k and m and written again, they are the bytes from i on.
+  pub four-read : (r : List ℕ) (i j k m : ℕ) → Bytes r → i + a ≡ j → j + b ≡ k → k + c ≡ m → m + d ≤ length r
+      → natBytes a (natAt a r i) ++ (natBytes b (natAt b r j) ++ (natBytes c (natAt c r k) ++ natBytes d (natAt d r m))) ≡ take (a + (b + (c + d))) (drop i r)
+  four-read r i j k m h e f g l =
+      ap₂ (λ (u v : List ℕ). u ++ v) (one a i (omega arith))
+      (ap₂ (λ (u v : List ℕ). u ++ v) (one b j (omega arith))
+      (ap₂ (λ (u v : List ℕ). u ++ v) (one c k (omega arith)) (one d m l) ∙ joined k m c d g)
+      ∙ joined j k b (c + d) f)
+      ∙ joined i j a (b + (c + d)) e
+    where
+      one : (w i : ℕ) → i + w ≤ length r → natBytes w (natAt w r i) ≡ take w (drop i r)
+      one w i l = ap (natBytes w) (nat-drop w r i 0 i (omega arith)) ∙ nat-write w (drop i r) (bytes-drop i r h) (simp length-drop (omega arith))
+
+      joined : (i j u v : ℕ) → i + u ≡ j → take u (drop i r) ++ take v (drop j r) ≡ take (u + v) (drop i r)
+      joined i j u v e = sym (take-add u v (drop i r) ∙ ap (λ (q : List ℕ). take u (drop i r) ++ take v q) (drop-drop u i r ∙ ap (λ (m : ℕ). drop m r) e))
 
 -- Two bytes, and four as twice two, as code reads and writes them.
 pub nat-two : (xs : List ℕ) (i : ℕ) → natAt 2 xs i ≡ getD xs i 0 + 256 * getD xs (i + 1) 0

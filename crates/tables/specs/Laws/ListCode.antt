@@ -1,5 +1,5 @@
 -- Columns of links written as a list: what the loops of code keep, and what comes of it.
-use Prim.Native.Nat.{ℕ, zero, suc, _+_, _*_, _-_, _<_, _≤_}
+use Prim.Native.Nat.{ℕ, suc, _+_, _*_, _-_, _<_, _≤_}
 use mathlib.Core.Path.{_≡_, sym, _∙_, ap, ap₂}
 use mathlib.Core.Bool.{Bool, true, false, cond}
 use mathlib.Core.List.{List, [], _∷_, _++_, append-assoc, append-nil}
@@ -10,7 +10,7 @@ use lib.Seq.{length-take-le, take-at, drop-at, drop-length}
 use borrow.Rule.Slice.PartMut.{putMid, post-is}
 use Rattle.matching.specs.Definitions.Links.{Link, sameLink, common}
 use Rattle.matching.specs.Definitions.Columns.{tabulate}
-use Rattle.matching.specs.Laws.Columns.{tabulate-length}
+use Rattle.matching.specs.Laws.Columns.{tabulate-length, tabulate-split}
 use Rattle.matching.specs.Laws.Common.{common-take}
 use Rattle.tables.specs.Definitions.Sizes.{numberSize, distanceSize, amountSize, linkB, linkDistance, linkAmount, linkSize, linkRows, listSize}
 use Rattle.tables.specs.Definitions.Fields.{natBytes}
@@ -69,18 +69,6 @@ link-put xs i l h =
 
     two : length (put (put xs i A) (i + linkB) B) ≡ length xs
     two = put-length (put xs i A) (i + linkB) B (omega (arith, one, nat-length numberSize (l .b))) ∙ one
-
--- Columns in two.
-pub tabulate-split : {X : Type 0} (f : ℕ → X) (k m n : ℕ) → tabulate f k (m + n) ≡ tabulate f k m ++ tabulate f (k + m) n
-unfolding tabulate
-tabulate-split f k zero n =
-    let i : k ≡ k + 0 = omega arith in
-    let j : 0 + n ≡ n = omega arith in
-    ap₂ (tabulate f) i j
-tabulate-split {X} f k (suc m) n =
-    let i : suc k + m ≡ k + suc m = omega arith in
-    let j : suc m + n ≡ suc (m + n) = omega arith in
-    rw j (ap (λ (r : List X). f k ∷ r) (tabulate-split f (suc k) m n ∙ ap (λ (s : ℕ). tabulate f (suc k) m ++ tabulate f s n) i))
 
 -- The writer: one row more,
 module _ (at : ℕ → Link) (from n : ℕ) where
@@ -191,7 +179,7 @@ pub rows-kept : (J K : List Link) (m : ℕ) → m ≤ length J → m ≤ length 
 rows-kept J K m h g e = list-take J m h ∙ ap (flat linkBytes) e ∙ sym (list-take K m g)
 
 -- Rows that stay, and the others written anew.
-pub written-anew : (l : List ℕ) (K : List Link) (m : ℕ) → take (linkSize * m) l ≡ take (linkSize * m) (listBytes K) → take (linkSize * m) l ++ drop (linkSize * m) (listBytes K) ≡ listBytes K
+written-anew : (l : List ℕ) (K : List Link) (m : ℕ) → take (linkSize * m) l ≡ take (linkSize * m) (listBytes K) → take (linkSize * m) l ++ drop (linkSize * m) (listBytes K) ≡ listBytes K
 written-anew l K m e = ap (λ (r : List ℕ). r ++ drop (linkSize * m) (listBytes K)) e ∙ take-append-drop (linkSize * m) (listBytes K)
 
 -- The links in common are as many as either has at most,

@@ -1,13 +1,13 @@
 -- A list read into columns, and the list that is the bytes of its links.
 use Prim.Native.Nat.{ℕ, zero, suc, _+_, _*_, _-_, _<_, _≤_}
 use mathlib.Core.Path.{_≡_, refl, sym, _∙_, ap, ap₂}
-use mathlib.Core.Bool.{Bool, true, false, cond}
+use mathlib.Core.Bool.{true}
 use mathlib.Core.List.{List, [], _∷_, _++_, append-assoc, append-nil}
 use native.Mathlib.Numerals.{add-one}
 use native.Mathlib.Omega.{arith}
 use lib.Dec.{eqb}
 use lib.ListN.{length, getD, take, drop, set, length-drop, length-replicate, take-append-drop}
-use lib.Seq.{take-add, getD-drop, ext-getD, drop-drop}
+use lib.Seq.{getD-drop, ext-getD}
 use mir.Syntax.{w8}
 use mir.Val.{Fits}
 use borrow.Author.Tests.{eq-eqb, ne-eqb, eqb-true}
@@ -15,12 +15,13 @@ use Rattle.matching.specs.Definitions.Links.{Link}
 use Rattle.matching.specs.Definitions.Columns.{linksOf}
 use Rattle.matching.specs.Laws.Columns.{links-more}
 use Rattle.tables.specs.Definitions.Sizes.{numberSize, distanceSize, amountSize, linkB, linkDistance, linkAmount, linkSize, linkRows, listSize}
-use Rattle.tables.specs.Definitions.Fields.{Bytes, natAt, natBytes}
+use Rattle.tables.specs.Definitions.Fields.{Bytes, natAt}
 use Rattle.tables.specs.Definitions.Rows.{flat, padded}
 use Rattle.tables.specs.Definitions.Lists.{linkBytes, listBytes, linkFrom, linksFrom, linksIn, zeroFrom}
-use Rattle.tables.specs.Laws.Fields.{bytes-drop, getD-zeros, nat-drop, nat-write}
+use Rattle.tables.specs.Laws.Fields.{getD-zeros, four-read}
 use Rattle.tables.specs.Laws.Rows.{zeros, from-all}
-use Rattle.tables.specs.Laws.Lists.{links-length}
+use Rattle.tables.specs.Laws.RowsRead.{rows-written}
+use Rattle.tables.specs.Laws.Lists.{links-length, links-zero, links-suc}
 
 -- What the columns hold after the list was read into them, r links.
 pub record LinksRead (l la lb ld lm : List ℕ) (r : ℕ) : Type 0 where
@@ -49,7 +50,7 @@ unfolding linksFrom
 links-last l k h = let e : linkRows - k ≡ 0 = omega arith in rw e
 
 -- and otherwise one more.
-pub links-on : (l : List ℕ) (k : ℕ) → k < linkRows → (natAt numberSize l (linkSize * k) ≡ 0 → ⊥) → linksFrom l k (linkRows - k) ≡ linkFrom l (linkSize * k) ∷ linksFrom l (k + 1) (linkRows - (k + 1))
+links-on : (l : List ℕ) (k : ℕ) → k < linkRows → (natAt numberSize l (linkSize * k) ≡ 0 → ⊥) → linksFrom l k (linkRows - k) ≡ linkFrom l (linkSize * k) ∷ linksFrom l (k + 1) (linkRows - (k + 1))
 unfolding linksFrom
 links-on l k h z = let e : linkRows - k ≡ suc (linkRows - (k + 1)) = omega arith in rw (e, ne-eqb (natAt numberSize l (linkSize * k)) 0 z, add-one k)
 
@@ -72,50 +73,12 @@ link-more l la lb ld lm W k a b d m h z c v e =
 pub links-whole : (l : List ℕ) (K W : List Link) (k : ℕ) → linksFrom l k (linkRows - k) ≡ [] → K ++ linksFrom l k (linkRows - k) ≡ W → K ≡ W
 links-whole l K W k z e = sym (append-nil K) ∙ ap (λ (J : List Link). K ++ J) (sym z) ∙ e
 
--- A field's bytes are those that stand there,
-field-bytes : (w i : ℕ) (r : List ℕ) → Bytes r → i + w ≤ length r → natBytes w (natAt w r i) ≡ take w (drop i r)
-field-bytes w i r h l = ap (natBytes w) (nat-drop w r i 0 i (omega arith)) ∙ nat-write w (drop i r) (bytes-drop i r h) (simp length-drop (omega arith))
-
--- and so are a row's.
+-- A row's bytes are those that stand there.
 pub row-bytes : (r : List ℕ) (i : ℕ) → Bytes r → i + linkSize ≤ length r → linkBytes (linkFrom r i) ≡ take linkSize (drop i r)
 unfolding linkBytes linkFrom
-row-bytes r i h l =
-    ap₂ (λ (u v : List ℕ). u ++ v) (field-bytes numberSize i r h (omega arith))
-    (ap₂ (λ (u v : List ℕ). u ++ v) (field-bytes numberSize (i + linkB) r h (omega arith))
-    (ap₂ (λ (u v : List ℕ). u ++ v) (field-bytes distanceSize (i + linkDistance) r h (omega arith)) (field-bytes amountSize (i + linkAmount) r h (omega arith))
-    ∙ joined (i + linkDistance) (i + linkAmount) distanceSize amountSize (omega arith))
-    ∙ joined (i + linkB) (i + linkDistance) numberSize (distanceSize + amountSize) (omega arith))
-    ∙ joined i (i + linkB) numberSize (numberSize + distanceSize + amountSize) refl
-  where
-    joined : (i j u v : ℕ) → i + u ≡ j → take u (drop i r) ++ take v (drop j r) ≡ take (u + v) (drop i r)
-    joined i j u v e = sym (take-add u v (drop i r) ∙ ap (λ (q : List ℕ). take u (drop i r) ++ take v q) (drop-drop u i r ∙ ap (λ (m : ℕ). drop m r) e))
+row-bytes r i h l = four-read numberSize numberSize distanceSize amountSize r i (i + linkB) (i + linkDistance) (i + linkAmount) h refl (omega arith) (omega arith) (omega arith)
 
 module _ (l : List ℕ) (h : Bytes l) (s : length l ≡ listSize) where
-  rows-bytes : (n k : ℕ) → k + n ≡ linkRows → flat linkBytes (linksFrom l k n) ≡ take (linkSize * length (linksFrom l k n)) (drop (linkSize * k) l)
-  unfolding linksFrom flat
-  rows-bytes zero k e = refl
-  rows-bytes (suc n) k e = go (eqb (natAt numberSize l (linkSize * k)) 0) (rows-bytes n (suc k) (omega arith))
-    where
-      go : (t : Bool) → flat linkBytes (linksFrom l (suc k) n) ≡ take (linkSize * length (linksFrom l (suc k) n)) (drop (linkSize * suc k) l)
-          → flat linkBytes (cond t [] (linkFrom l (linkSize * k) ∷ linksFrom l (suc k) n)) ≡ take (linkSize * length (cond t [] (linkFrom l (linkSize * k) ∷ linksFrom l (suc k) n))) (drop (linkSize * k) l)
-      go true i = refl
-      go false i =
-          ap₂ (λ (u v : List ℕ). u ++ v) (row-bytes l (linkSize * k) h (omega arith)) (i ∙ ap (take (linkSize * m)) (sym next))
-          ∙ sym (take-add linkSize (linkSize * m) (drop (linkSize * k) l))
-          ∙ ap (λ (j : ℕ). take j (drop (linkSize * k) l)) more
-        where
-          m : ℕ
-          m = length (linksFrom l (suc k) n)
-
-          more : linkSize + linkSize * m ≡ linkSize * suc m
-          more = omega arith
-
-          row : linkSize * k + linkSize ≡ linkSize * suc k
-          row = omega arith
-
-          next : drop linkSize (drop (linkSize * k) l) ≡ drop (linkSize * suc k) l
-          next = drop-drop linkSize (linkSize * k) l ∙ ap (λ (j : ℕ). drop j l) row
-
   -- Zero bytes behind them.
   zero-rest : (k : ℕ) → zeroFrom l k ≡ true → drop (linkSize * k) l ≡ zeros (listSize - linkSize * k)
   unfolding zeroFrom
@@ -127,7 +90,7 @@ module _ (l : List ℕ) (h : Bytes l) (s : length l ≡ listSize) where
 
   rows-all : flat linkBytes (linksIn l) ≡ take (linkSize * length (linksIn l)) l
   unfolding linksIn
-  rows-all = rows-bytes linkRows 0 refl
+  rows-all = rows-written linkSize linkBytes linkFrom numberSize linksFrom links-zero links-suc row-bytes l h linkRows 0 (λ j g. omega arith)
 
   -- A list that is zero behind its links is the list of its links.
   pub links-list : zeroFrom l (length (linksIn l)) ≡ true → l ≡ listBytes (linksIn l)

@@ -1,7 +1,7 @@
 -- Laws of rows and searches.
 use Prim.Native.Nat.{ℕ, zero, suc, _+_, _*_, _-_, _<_, _≤_}
 use mathlib.Core.Path.{_≡_, refl, sym, _∙_, ap, ap₂}
-use mathlib.Core.Bool.{Bool, true, false, cond, _&&_, _||_}
+use mathlib.Core.Bool.{Bool, true, false, cond, _||_}
 use mathlib.Core.Option.{none, some}
 use mathlib.Core.List.{List, [], _∷_, _++_, append-assoc}
 use native.Mathlib.Decide.{ℕ-discrete}
@@ -9,15 +9,12 @@ use native.Mathlib.Nat.{mul-suc}
 use native.Mathlib.Omega.{arith}
 use lib.ListN.{length, take, drop, set, replicate, take-append-drop, length-append, length-take, length-drop, length-set}
 use lib.Seq.{take-append-add, drop-append-add, drop-set-lt, take-suc-set}
+pub use Rattle.matching.specs.Laws.Common.{and-split}
 use Rattle.tables.specs.Definitions.Rows.{flat, put, firstFrom, allFrom}
 
 pub or-split : (s t : Bool) → (s || t) ≡ false → (s ≡ false) × (t ≡ false)
 or-split true t e = absurd (let z : _≡_ {A = ℕ} 0 1 = cc in omega arith)
 or-split false t e = (refl, e)
-
-pub and-split : (s t : Bool) → (s && t) ≡ true → (s ≡ true) × (t ≡ true)
-and-split true t e = (refl, e)
-and-split false t e = absurd (let z : _≡_ {A = ℕ} 0 1 = cc in omega arith)
 
 -- The first place of a search: none,
 pub none-from : (p : ℕ → Bool) (n k j : ℕ) → firstFrom p k n ≡ none → k ≤ j → j < k + n → p j ≡ false

@@ -3,7 +3,6 @@ use Prim.Native.Nat.{ℕ, suc, _+_, _-_, _<_, _≤_}
 use mathlib.Core.Path.{_≡_, _∙_, ap}
 use mathlib.Core.Bool.{Bool, true, false}
 use mathlib.Core.Option.{none, some}
-use native.Mathlib.Decide.{ℕ-discrete}
 use native.Mathlib.Omega.{arith}
 use Rattle.tables.specs.Definitions.Rows.{firstFrom, allFrom}
 
@@ -38,14 +37,3 @@ module _ (p : ℕ → Bool) (k e : ℕ) where
   pub all-done : e ≤ k → allFrom p k (e - k) ≡ true
   unfolding allFrom
   all-done h = let z : e - k ≡ 0 = omega arith in rw z
-
--- What holds of every place from a to k, kept as a loop goes on.
-pub from-start : (P : ℕ → Type 0) (a j : ℕ) → a ≤ j → j < a → P j
-from-start P a j h g = absurd (omega arith)
-
-pub from-more : (P : ℕ → Type 0) (a k : ℕ) → ((j : ℕ) → a ≤ j → j < k → P j) → P k → (j : ℕ) → a ≤ j → j < k + 1 → P j
-from-more P a k f p j h g = go (ℕ-discrete k j)
-  where
-    go : Dec (k ≡ j) → P j
-    go (yes e) = rw (← e) p
-    go (no e) = f j h (omega arith)

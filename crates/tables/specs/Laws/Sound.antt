@@ -1,6 +1,6 @@
 -- The quick verdict on a table: what its tests show is that no row is faulty.
 use Prim.Native.Nat.{ℕ, zero, suc, _+_, _*_, _-_, _<_, _≤_}
-use mathlib.Core.Path.{_≡_, refl, sym, _∙_, ap, subst}
+use mathlib.Core.Path.{_≡_, refl, sym, _∙_, ap}
 use mathlib.Core.Bool.{true, false, not}
 use mathlib.Core.Option.{Option, none, some}
 use mathlib.Core.List.{List, _∷_}
@@ -52,7 +52,7 @@ module _ (t ns : List ℕ) (m : Numbered t ns)
   faultless = from-none (faulty t) nodeRows 0 (λ k h g. clean k (omega arith))
 
 -- The node at place j, and that its row has a number.
-pub record RowAt (t : List ℕ) (A : List Node) (k j : ℕ) (d : Node) : Type 0 where
+record RowAt (t : List ℕ) (A : List Node) (k j : ℕ) (d : Node) : Type 0 where
   pub node : getD A j d ≡ nodeFrom t (nodeSize * (k + j))
   pub numbered : rowNumber t (k + j) ≡ 0 → ⊥
 

@@ -10,10 +10,11 @@ use lib.ListN.{length, getD, take, drop, drop-of-length-le}
 use lib.Seq.{drop-cons}
 use borrow.Author.Tests.{eq-eqb, ne-eqb}
 use Rattle.matching.specs.Definitions.Lists.{sumOver}
-use Rattle.matching.specs.Definitions.Nodes.{Master, masterA, masterB, each}
+use Rattle.matching.specs.Definitions.Nodes.{Master, each}
 use Rattle.matching.specs.Definitions.Pairs.{numberIn}
 use Rattle.matching.specs.Definitions.Links.{Link, pairOf, used}
-use Rattle.matching.specs.Definitions.Columns.{linkAt, linksOf}
+use Rattle.matching.specs.Definitions.Columns.{linksOf}
+use Rattle.matching.specs.Laws.Columns.{link-number}
 use Rattle.tables.specs.Laws.LinkFields.{link-fields}
 
 -- The sum of the amounts whose number is n.
@@ -29,14 +30,10 @@ used-fields s [] n = refl
 used-fields s (l ∷ K) n = ap (λ (m : ℕ). cond (eqb (numberIn s (pairOf l)) n) (l .amount) 0 + m) (used-fields s K n)
 
 module _ (la lb ld lm : List ℕ) where
-  number-at : (s : Master) (i : ℕ) → numberIn s (pairOf (linkAt la lb ld lm i)) ≡ getD (each la lb s) i 0
-  number-at masterA i = refl
-  number-at masterB i = refl
-
   pub used-links : (s : Master) (n k : ℕ) → n ≤ length (each la lb s) → n ≤ length lm → usedOf k (take n (each la lb s)) (take n lm) ≡ used s (linksOf la lb ld lm n) k
   used-links s n k h g =
       ap₂ (usedOf k)
-      (sym (link-fields la lb ld lm (λ (l : Link). numberIn s (pairOf l)) (each la lb s) (number-at s) n h))
+      (sym (link-fields la lb ld lm (λ (l : Link). numberIn s (pairOf l)) (each la lb s) (link-number la lb ld lm s) n h))
       (sym (link-fields la lb ld lm (λ (l : Link). l .amount) lm (λ i. refl) n g))
       ∙ used-fields s (linksOf la lb ld lm n) k
 

@@ -1,27 +1,17 @@
--- What a loop has shown of each row from the first on, what encloses rows, and what is past them. Assumes nothing.
+-- What encloses rows, and what is past them. Assumes nothing.
 use Prim.Native.Nat.{ℕ, _+_, _-_, _*_, _≤_, _<_}
-use mathlib.Core.Path.{_≡_}
 use mathlib.Core.Bool.{true, false}
 use mathlib.Core.List.{List}
 use native.Mathlib.Decide.{decLt}
 use native.Mathlib.Omega.{arith}
-use borrow.Author.Count.{below-more}
-use borrow.Author.Tests.{le-ltb}
-use lib.IntN.{ℤ, pos, natAbs}
+use lib.IntN.{ℤ}
 use lib.ListN.{length, getD}
 use Rattle.bounds.specs.Boxes.{Among, Extreme}
-use Rattle.bounds.proofs.Laws.Places.{among-small}
-use Rattle.matching.specs.Definitions.Columns.{edge}
+use Rattle.bounds.proofs.Laws.Places.{corner-inside}
+use Rattle.matching.specs.Definitions.Columns.{Inside}
 use Rattle.join.specs.Sizes.{numberRange}
-use Rattle.verify.specs.Open.{late, Ruled}
+use Rattle.verify.specs.Open.{late, Ruled, late-one}
 use Rattle.verify.specs.Blocks.{Encloses}
-
-module _ (P : ℕ → Type 0) (first : ℕ) where
-  pub from-none : (k : ℕ) → first ≤ k → k < first → P k
-  from-none k l h = absurd (omega arith)
-
-  pub from-more : (i : ℕ) → ((k : ℕ) → first ≤ k → k < i → P k) → P i → (k : ℕ) → first ≤ k → k < i + 1 → P k
-  from-more i all here k l h = below-more (λ j. first ≤ j → P j) i (λ j b a. all j a b) (λ a. here) k h l
 
 -- The places before a block, and the block's.
 pub block-more : (P : ℕ → Type 0) (first end : ℕ) → ((k : ℕ) → k < first → P k) → ((k : ℕ) → first ≤ k → k < end → P k) → (k : ℕ) → k < end → P k
@@ -35,12 +25,9 @@ block-more P first end old new k h = go (decLt k first)
 pub past : (d m far high e n : ℕ) → m < numberRange → far * numberRange + high ≤ d * numberRange + m → d ≤ e → m ≤ n → e + late n high ≤ far → ⊥
 past d m far high e n small key away from ahead = go (decLt n high)
   where
-    late-is : high ≤ n → late n high ≡ 1
-    late-is h = rw (le-ltb n high h)
-
     go : Dec (n < high) → ⊥
     go (yes l) = omega arith
-    go (no l) = omega (arith, late-is (omega arith))
+    go (no l) = omega (arith, late-one n high (omega arith))
 
 module _ (ns : List ℕ) (xs ys : List ℤ) (far high : List ℕ) (first end : ℕ) (some : first < end) (room : end ≤ length ns) (ruled : (k : ℕ) → k < length ns → Ruled ns xs ys far high k) where
   -- Each column has the rows.
@@ -54,12 +41,9 @@ module _ (ns : List ℕ) (xs ys : List ℤ) (far high : List ℕ) (first end : �
       → ((k : ℕ) → first ≤ k → k < end → n ≤ getD ns k 0) → ((k : ℕ) → first ≤ k → k < end → getD far k 0 * numberRange + getD high k 0 ≤ p)
       → Encloses ns xs ys far high first end (record { left = l; right = r; bottom = b; top = t; least = n; limit = p })
   encloses l r b t n p el er eb et least limit = record {
-    inner = ((across l (el .among), up b (eb .among)), (across r (er .among), up t (et .among)));
+    inner = (corner (el .among) (eb .among), corner (er .among) (et .among));
     holds = λ k h g. record { left = el .most k h g; right = er .most k h g; bottom = eb .most k h g; top = et .most k h g; least = least k h g; limit = limit k h g };
   }
     where
-      across : (z : ℤ) → Among xs first end z → natAbs z ≤ edge
-      across = among-small xs first end edge (λ k h. ruled k (omega arith) .placed .inside .0)
-
-      up : (z : ℤ) → Among ys first end z → natAbs z ≤ edge
-      up = among-small ys first end edge (λ k h. ruled k (omega arith) .placed .inside .1)
+      corner : {u v : ℤ} → Among xs first end u → Among ys first end v → Inside u v
+      corner = corner-inside xs ys first end (λ k h. ruled k (omega arith) .placed .inside)

@@ -5,7 +5,7 @@ use lib.IntN.{ℤ, pos}
 use lib.ListN.{length, getD}
 use Rattle.verify.specs.Barred.{Carry}
 use Rattle.verify.specs.Carried.{Brought}
-use Rattle.verify.proofs.Laws.Limits.{stored-both}
+use Rattle.matching.specs.Laws.Loops.{stored-both}
 
 module _ (ns : List ℕ) (xs ys : List ℤ) (far high ms : List ℕ) (us vs : List ℤ) where
   -- Row i has a limit that is carried over.

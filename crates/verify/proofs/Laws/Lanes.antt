@@ -1,24 +1,15 @@
 -- Lanes: filled one by one, and what they say of the block's rows. Assumes nothing.
 use Prim.Native.Nat.{ℕ, _+_, _-_, _≤_, _<_}
-use mathlib.Core.Path.{_≡_, _∙_, sym}
+use mathlib.Core.Path.{_≡_, refl, _∙_, sym}
 use mathlib.Core.List.{List}
-use native.Mathlib.Decide.{ℕ-discrete}
 use native.Mathlib.Omega.{arith}
 use lib.IntN.{ℤ, pos}
 use lib.ListN.{length, getD, set, length-set}
-use lib.Seq.{getD-set-same, getD-set-other}
+use Rattle.matching.specs.Laws.Loops.{stored-below}
 use Rattle.join.specs.Nearest.{across}
 use Rattle.join.specs.Sizes.{blockRows}
 use Rattle.verify.specs.Open.{Ruled, Shut}
 use Rattle.verify.specs.Lanes.{rowOf, Sized, Lanes}
-
--- A column is copied one entry further: entry q is that of the row of q.
-copied : {A : Type 0} (xs c : List A) (d : A) (row : ℕ → ℕ) (k q : ℕ) → k < length c → (q < k → getD c q d ≡ getD xs (row q) d) → q < k + 1 → getD (set c k (getD xs (row k) d)) q d ≡ getD xs (row q) d
-copied xs c d row k q h old l = go (ℕ-discrete q k)
-  where
-    go : Dec (q ≡ k) → getD (set c k (getD xs (row k) d)) q d ≡ getD xs (row q) d
-    go (yes e) = rw e (getD-set-same c k (getD xs (row k) d) d h)
-    go (no e) = getD-set-other c k q (getD xs (row k) d) d e ∙ old (omega arith)
 
 -- The next lane gets its row.
 pub sized-on : (cn : List ℕ) (cx cy : List ℤ) (cf ch : List ℕ) (k a : ℕ) (x y : ℤ) (f h : ℕ) → Sized cn cx cy cf ch blockRows → Sized (set cn k a) (set cx k x) (set cy k y) (set cf k f) (set ch k h) blockRows
@@ -34,11 +25,11 @@ module _ (ns : List ℕ) (xs ys : List ℤ) (far high : List ℕ) (cn : List ℕ
   pub lanes-on : (k : ℕ) → k < blockRows → Lanes ns xs ys far high cn cx cy cf ch first end k
       → Lanes ns xs ys far high (set cn k (getD ns (rowOf first end k) 0)) (set cx k (getD xs (rowOf first end k) (pos 0))) (set cy k (getD ys (rowOf first end k) (pos 0))) (set cf k (getD far (rowOf first end k) 0)) (set ch k (getD high (rowOf first end k) 0)) first end (k + 1)
   lanes-on k h old q l = record {
-    number = copied ns cn 0 (rowOf first end) k q (omega (arith, s .in-n)) (λ b. old q b .number) l;
-    x = copied xs cx (pos 0) (rowOf first end) k q (omega (arith, s .in-x)) (λ b. old q b .x) l;
-    y = copied ys cy (pos 0) (rowOf first end) k q (omega (arith, s .in-y)) (λ b. old q b .y) l;
-    far = copied far cf 0 (rowOf first end) k q (omega (arith, s .in-f)) (λ b. old q b .far) l;
-    high = copied high ch 0 (rowOf first end) k q (omega (arith, s .in-h)) (λ b. old q b .high) l;
+    number = stored-below 0 (λ j v. v ≡ getD ns (rowOf first end j) 0) cn k _ (omega (arith, s .in-n)) (λ j b. old j b .number) refl q l;
+    x = stored-below (pos 0) (λ j v. v ≡ getD xs (rowOf first end j) (pos 0)) cx k _ (omega (arith, s .in-x)) (λ j b. old j b .x) refl q l;
+    y = stored-below (pos 0) (λ j v. v ≡ getD ys (rowOf first end j) (pos 0)) cy k _ (omega (arith, s .in-y)) (λ j b. old j b .y) refl q l;
+    far = stored-below 0 (λ j v. v ≡ getD far (rowOf first end j) 0) cf k _ (omega (arith, s .in-f)) (λ j b. old j b .far) refl q l;
+    high = stored-below 0 (λ j v. v ≡ getD high (rowOf first end j) 0) ch k _ (omega (arith, s .in-h)) (λ j b. old j b .high) refl q l;
   }
 
   module _ (lanes : Lanes ns xs ys far high cn cx cy cf ch first end blockRows) (some : first < end) where

@@ -4,12 +4,11 @@ use mathlib.Core.Path.{_≡_}
 use mathlib.Core.List.{List}
 use native.Mathlib.Decide.{decLt}
 use native.Mathlib.Omega.{arith}
-use borrow.Author.Tests.{lt-ltb, le-ltb}
 use mathlib.Core.Logic.{_⊎_, inl, inr}
 use lib.IntN.{ℤ}
 use lib.ListN.{length, getD}
 use Rattle.join.specs.Sizes.{masterRows, numberRange}
-use Rattle.verify.specs.Open.{late, Ruled, Shut}
+use Rattle.verify.specs.Open.{late, Ruled, Shut, late-none, late-one}
 use Rattle.verify.specs.Later.{Limited, Known, Kept, Taken, kept, taken, OnlyLater, Moved, later, none, StillShut}
 use Rattle.verify.specs.Barred.{Barred, none-ahead, shut-swap}
 
@@ -17,20 +16,14 @@ use Rattle.verify.specs.Barred.{Barred, none-ahead, shut-swap}
 ahead : (f g f' g' d n : ℕ) → g < numberRange → f' * numberRange + g' ≤ f * numberRange + g → d + late n g' ≤ f' → d + late n g ≤ f
 ahead f g f' g' d n small key h = go (decLt n g) (decLt n g')
   where
-    early : (z : ℕ) → n < z → late n z ≡ 0
-    early z l = rw (lt-ltb n z l)
-
-    past : (z : ℕ) → z ≤ n → late n z ≡ 1
-    past z l = rw (le-ltb n z l)
-
     go : Dec (n < g) → Dec (n < g') → d + late n g ≤ f
-    go (yes l) (yes m) = omega (arith, early g l, early g' m)
-    go (yes l) (no m) = omega (arith, early g l, past g' (omega arith))
-    go (no l) (yes m) = omega (arith, past g (omega arith), early g' m)
-    go (no l) (no m) = omega (arith, past g (omega arith), past g' (omega arith))
+    go (yes l) (yes m) = omega (arith, late-none n g l, late-none n g' m)
+    go (yes l) (no m) = omega (arith, late-none n g l, late-one n g' (omega arith))
+    go (no l) (yes m) = omega (arith, late-one n g (omega arith), late-none n g' m)
+    go (no l) (no m) = omega (arith, late-one n g (omega arith), late-one n g' (omega arith))
 
 -- A pair of two places that have no later limits than before is shut where it was.
-pub kept-shut : (an : List ℕ) (ax ay : List ℤ) (af ah nf nh bn : List ℕ) (bx by : List ℤ) (bf bh mf mh : List ℕ) (i j : ℕ)
+kept-shut : (an : List ℕ) (ax ay : List ℤ) (af ah nf nh bn : List ℕ) (bx by : List ℤ) (bf bh mf mh : List ℕ) (i j : ℕ)
     → Kept af ah nf nh i → Kept bf bh mf mh j → Shut an ax ay af ah bn bx by bf bh i j → Shut an ax ay nf nh bn bx by mf mh i j
 kept-shut an ax ay af ah nf nh bn bx by bf bh mf mh i j a b h p q =
     h (ahead _ (getD ah i 0) _ (getD nh i 0) _ (getD bn j 0) (a .small) (a .least) p) (ahead _ (getD bh j 0) _ (getD mh j 0) _ (getD an i 0) (b .small) (b .least) q)

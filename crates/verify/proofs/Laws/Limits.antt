@@ -12,20 +12,9 @@ use lib.Dec.{eqb}
 use borrow.Author.Count.{below-more}
 use borrow.Author.Tests.{eq-eqb, ne-eqb}
 use Rattle.matching.specs.Definitions.Columns.{Distinct}
+use Rattle.matching.specs.Laws.Loops.{stored-below}
 use Rattle.join.specs.Sizes.{numberRange}
 use Rattle.verify.specs.Limits.{takenOf, keyAt, SpentRow, limitOf, Noted, Spent, Limit, unlimited, limited, Sided}
-
--- A store at place k, after places below k,
-pub stored-below : {X : Type 0} (z : X) (P : ℕ → X → Type 0) (xs : List X) (k : ℕ) (v : X) → k < length xs → ((j : ℕ) → j < k → P j (getD xs j z)) → P k v
-    → (j : ℕ) → j < k + 1 → P j (getD (set xs k v) j z)
-stored-below z P xs k v l h p =
-    below-more (λ j. P j (getD (set xs k v) j z)) k (λ j b. rw (getD-set-other xs k j v z (λ e. omega arith)) (h j b)) (rw (getD-set-same xs k v z l) p)
-
--- and one in each of two columns.
-pub stored-both : (P : ℕ → ℕ → ℕ → Type 0) (xs ys : List ℕ) (k v w : ℕ) → k < length xs → k < length ys → ((j : ℕ) → j < k → P j (getD xs j 0) (getD ys j 0)) → P k v w
-    → (j : ℕ) → j < k + 1 → P j (getD (set xs k v) j 0) (getD (set ys k w) j 0)
-stored-both P xs ys k v w l m h p =
-    stored-below 0 (λ j a. P j a (getD (set ys k w) j 0)) xs k v l (λ j b. rw (getD-set-other ys k j w 0 (λ e. omega arith)) (h j b)) (rw (getD-set-same ys k w 0 m) p)
 
 -- A place noted, after places below it.
 pub noted-more : (left before far : List ℕ) (k v : ℕ) → k < length far → Noted left before far k → ((j : ℕ) → k ≤ j → getD far j 0 ≡ getD before j 0) → v ≡ limitOf (getD left k 0) (getD far k 0)

@@ -20,7 +20,7 @@ use Rattle.matching.specs.Laws.Columns.{tabulate-all, tabulate-snoc}
 use Rattle.verify.specs.Rows.{pairAt}
 use Rattle.verify.specs.Limits.{takenOf}
 
-pub tabulate-in : {X : Type 0} (f : ℕ → X) (k n i : ℕ) → i < n → List·Memᴰ (f (k + i)) (tabulate f k n)
+tabulate-in : {X : Type 0} (f : ℕ → X) (k n i : ℕ) → i < n → List·Memᴰ (f (k + i)) (tabulate f k n)
 unfolding tabulate
 tabulate-in f k zero i h = absurd (omega arith)
 tabulate-in f k (suc n) zero h = let e : k + 0 ≡ k = omega arith in List·Memᴰ·head (ap f e)

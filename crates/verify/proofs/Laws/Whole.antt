@@ -1,72 +1,53 @@
 -- What the parts of the check establish makes the links the join. Assumes nothing.
 use Prim.Native.Nat.{ℕ, suc, _+_, _*_, _≤_, _<_}
 use mathlib.Core.Path.{_≡_, refl, sym, _∙_, ap}
-use mathlib.Core.Bool.{Bool, true, false, cond}
 use mathlib.Core.List.{List}
 use native.Mathlib.Omega.{arith}
 use native.Mathlib.Decide.{decLe}
-use lib.IntN.{ℤ, pos}
+use lib.IntN.{ℤ}
 use lib.ListN.{length, getD}
-use lib.Dec.{ltb}
-use borrow.Author.Tests.{lt-ltb}
 use Rattle.matching.specs.Definitions.Lists.{All}
 use Rattle.matching.specs.Definitions.Nodes.{Master, masterA, masterB, each, Node}
 use Rattle.matching.specs.Definitions.Pairs.{Pair, numberIn, distance, pair, Before, nearer, lowerA, lowerB}
 use Rattle.matching.specs.Definitions.Links.{Link, pairOf, used}
 use Rattle.matching.specs.Definitions.Join.{join}
 use Rattle.matching.specs.Definitions.Columns.{Distinct, nodeAt, nodesOf, linkAt, linksOf}
-use Rattle.matching.specs.Laws.Distance.{inside-reach, distance-fits}
 use Rattle.matching.specs.Laws.Amounts.{other, Named}
-use Rattle.matching.specs.Laws.Columns.{nodes-length, nodes-get, nodes-all, same-place}
+use Rattle.matching.specs.Laws.Columns.{nodes-length, nodes-get, nodes-all, same-place, link-number}
 use Rattle.matching.specs.Theorems.Checked as checked
 use Rattle.join.specs.Sizes.{masterRows, numberRange}
 use Rattle.join.specs.Contract.{Fit}
 use Rattle.join.specs.Rows.{Placed}
 use Rattle.join.specs.Nearest.{across}
+use Rattle.join.proofs.Laws.Pairs.{across-fits}
 use Rattle.verify.specs.Sizes.{free}
 use Rattle.verify.specs.Rows.{Level}
 use Rattle.verify.specs.Limits.{Limit, unlimited, limited}
-use Rattle.verify.specs.Open.{late, Shut}
+use Rattle.verify.specs.Open.{late, Shut, late-none, late-most}
 use Rattle.verify.specs.Later.{Limited}
 use Rattle.verify.specs.Links.{Held}
 use Rattle.verify.proofs.Laws.Links.{node-in, increasing-tabulate, links-all, used-taken}
 
-pub late-one : (n high : ℕ) → late n high ≤ 1
-late-one n high = go (ltb n high)
-  where
-    go : (t : Bool) → cond t 0 1 ≤ 1
-    go true = omega arith
-    go false = omega arith
-
 -- A pair that is not ahead of a limit is not before a row up to it that shares its node.
 module _ (p q : Pair) (far high : ℕ) (small : high < numberRange) where
-  late-none : (n : ℕ) → n < high → late n high ≡ 0
-  late-none n h = rw (lt-ltb n high h)
-
   tied : (n : ℕ) → p .distance ≡ q .distance → n < high → q .distance ≤ far → ¬ (p .distance + late n high ≤ far) → ⊥
-  tied n e l h k = k (omega (arith, late-none n l))
+  tied n e l h k = k (omega (arith, late-none n high l))
 
   past : (s : Master) → numberIn s p ≡ numberIn s q → q .distance * numberRange + numberIn (other s) q ≤ far * numberRange + high
       → ¬ (p .distance + late (numberIn (other s) p) high ≤ far) → ¬ Before p q
-  past s e k h (nearer d) = h (omega (arith, late-one (numberIn (other s) p) high))
+  past s e k h (nearer d) = h (omega (arith, late-most (numberIn (other s) p) high))
   past masterA e k h (lowerA d l) = omega arith
   past masterB e k h (lowerB d f l) = omega arith
   past masterA e k h (lowerB d f l) = go (decLe (suc (q .distance)) far)
     where
       go : Dec (suc (q .distance) ≤ far) → ⊥
-      go (yes y) = h (omega (arith, late-one (p .b) high))
+      go (yes y) = h (omega (arith, late-most (p .b) high))
       go (no n) = tied (p .b) d (omega arith) (omega arith) h
   past masterB e k h (lowerA d l) = go (decLe (suc (q .distance)) far)
     where
       go : Dec (suc (q .distance) ≤ far) → ⊥
-      go (yes y) = h (omega (arith, late-one (p .a) high))
+      go (yes y) = h (omega (arith, late-most (p .a) high))
       go (no n) = tied (p .a) d (omega arith) (omega arith) h
-
--- A squared distance leaves room for a tie.
-pub across-fits : (ax ay bx by : List ℤ) (i j : ℕ) → Placed ax ay i → Placed bx by j → across ax ay bx by i j < free
-unfolding across
-across-fits ax ay bx by i j p q = distance-fits (getD ax i (pos 0)) (getD ay i (pos 0)) (getD bx j (pos 0)) (getD by j (pos 0))
-    (inside-reach (getD ax i (pos 0)) (getD ay i (pos 0)) (getD bx j (pos 0)) (getD by j (pos 0)) (p .inside) (q .inside))
 
 -- What is asked of a master's columns, for the parts.
 module _ (ns : List ℕ) (xs ys : List ℤ) (cs : List ℕ) (f : Fit ns xs ys cs) where
@@ -95,10 +76,6 @@ module _ (an : List ℕ) (ax ay : List ℤ) (ac bn : List ℕ) (bx by : List ℤ
   abbrev K : List Link
   K = linksOf la lb ld lm n
 
-  column : (s : Master) (k : ℕ) → numberIn s (pairOf (linkAt la lb ld lm k)) ≡ getD (each la lb s) k 0
-  column masterA k = refl
-  column masterB k = refl
-
   long : (s : Master) → length (each la lb s) ≡ n
   long masterA = refl
   long masterB = level .of-b
@@ -108,13 +85,13 @@ module _ (an : List ℕ) (ax ay : List ℤ) (ac bn : List ℕ) (bx by : List ℤ
       → Limit (each an bn s) (each la lb s) (each la lb (other s)) ld lm (numberIn s (pair v w)) (each (v .capacity) (w .capacity) s) far high
       → ¬ (distance v w + late (numberIn (other s) (pair v w)) high ≤ far) → checked.Shut A B (fa .unique) (fb .unique) K v w
   unfolding pair
-  shut-by s v w far high d (unlimited e) h = absurd (h (omega (arith, late-one (numberIn (other s) (pair v w)) high)))
+  shut-by s v w far high d (unlimited e) h = absurd (h (omega (arith, late-most (numberIn (other s) (pair v w)) high)))
   shut-by s v w far high d (limited u m b) h = record {
     side = s;
     spent = used-taken la lb ld lm s n (numberIn s (pair v w)) ∙ (rw (long s) at u);
     last = links-all la lb ld lm (λ l. numberIn s (pairOf l) ≡ numberIn s (pair v w) → ¬ Before (pair v w) (pairOf l)) n (λ k g e.
         past (pair v w) (pairOf (linkAt la lb ld lm k)) far high b s (sym e)
-        (omega (arith, m k (omega (arith, long s)) (sym (column s k) ∙ e), column (other s) k)) h);
+        (omega (arith, m k (omega (arith, long s)) (sym (link-number la lb ld lm s k) ∙ e), link-number la lb ld lm (other s) k)) h);
   }
 
   module _ (held : Held an ax ay ac bn bx by bc la lb ld lm ia ib af ah bf bh) (shut : (i j : ℕ) → i < length an → j < length bn → Shut an ax ay af ah bn bx by bf bh i j) where
@@ -150,7 +127,7 @@ module _ (an : List ℕ) (ax ay : List ℤ) (ac bn : List ℕ) (bx by : List ℤ
     shut-pair i j h g = go (decLe (across ax ay bx by i j + late (getD bn j 0) (getD ah i 0)) (getD af i 0))
       where
         fits : across ax ay bx by i j < free
-        fits = across-fits ax ay bx by i j (fit-placed an ax ay ac fa i h) (fit-placed bn bx by bc fb j g)
+        fits = omega (arith, across-fits ax ay bx by i j (fit-placed an ax ay ac fa i h) (fit-placed bn bx by bc fb j g))
 
         go : Dec (across ax ay bx by i j + late (getD bn j 0) (getD ah i 0) ≤ getD af i 0) → checked.Shut A B (fa .unique) (fb .unique) K (N i) (M j)
         go (no z) = shut-by masterA (N i) (M j) (getD af i 0) (getD ah i 0) fits (held .side-a .limits i h) z

@@ -1,6 +1,6 @@
 -- `blocks::frame` meets its contract: the edges are the positions farthest out. Assumes nothing.
 use borrow.Author.Needs.{needs}
-use Rattle.join.proofs.Laws.Pairs.{back}
+use Rattle.matching.proofs.Laws.Widths.{back}
 use Rattle.join.proofs.Laws.Blocks.{framed}
 use Rattle.join.proofs.blocks.frame.Statement.{statement}
 use Rattle.join.proofs.blocks.frame.Tie as tie

@@ -1,24 +1,10 @@
 -- `blocks::lowest` meets its contract. The loop's invariant: no number before row k is below n. Assumes nothing.
-use Prim.Native.Nat.{ℕ, _+_, _-_, _<_, _≤_, min}
-use mathlib.Core.Path.{_≡_}
-use mathlib.Core.List.{List}
-use native.Mathlib.Decide.{ℕ-discrete}
+use Prim.Native.Nat.{_-_, _<_, _≤_}
 use native.Mathlib.Omega.{arith}
-use lib.ListN.{getD}
-use Rattle.join.specs.Sizes.{numberRange}
+use Rattle.matching.specs.Laws.Loops.{from-start, from-more}
 use Rattle.join.specs.Blocks.{Least}
 use Rattle.join.proofs.blocks.lowest.Statement.{statement}
 use Rattle.join.proofs.blocks.lowest.Tie as tie
-
-first-least : (ns : List ℕ) (first q : ℕ) → q ≡ first → getD ns first 0 < numberRange → (getD ns first 0 ≤ getD ns q 0) × (getD ns q 0 < numberRange)
-first-least ns first q e h = rw e (omega arith, h)
-
-least-on : (ns : List ℕ) (first k n r : ℕ) → Least ns first k n → getD ns k 0 < numberRange → r ≡ min n (getD ns k 0) → Least ns first (k + 1) r
-least-on ns first k n r l h e q a b = go (ℕ-discrete q k)
-  where
-    go : Dec (q ≡ k) → (r ≤ getD ns q 0) × (getD ns q 0 < numberRange)
-    go (yes d) = rw d (omega arith, h)
-    go (no d) = (omega (arith, l q a (omega arith) .0), l q a (omega arith) .1)
 
 abbrev Inv-loop : tie.InvT-loop
 Inv-loop ns first end n₀ k₀ n k = (first < k) × (k ≤ end) × Least ns first k n
@@ -36,7 +22,7 @@ add-k : tie.Need-add-k Inv-loop μ-loop
 add-k c = record { fits = omega (arith, c .before .before .pre, c .before .before .good) }
 
 loop-holds : tie.Need-loop-holds Inv-loop μ-loop
-loop-holds c = (omega arith, omega (arith, c .before .before .pre), λ q a b. first-least (c .before .before .args .ns .now) (c .before .before .args .first) q (omega arith) (omega (arith, c .shared-slice-known2 .given (c .before .before .args .first))))
+loop-holds c = (omega arith, omega (arith, c .before .before .pre), from-more _ _ _ (from-start _ _) (omega arith, omega (arith, c .shared-slice-known2 .given (c .before .before .args .first))))
 
 mul-lesser : tie.Need-mul-lesser Inv-loop μ-loop
 mul-lesser c = record { fits = omega (arith, c .before .before .before .before .pre, c .before .before .before .before .good) }
@@ -54,7 +40,9 @@ loop-less : tie.Need-loop-less Inv-loop μ-loop
 loop-less c = omega arith
 
 loop-again : tie.Need-loop-again Inv-loop μ-loop
-loop-again c = (omega arith, omega arith, least-on (c .before .before .before .before .before .before .args .ns .now) (c .before .before .before .before .before .before .args .first) (c .before .before .before .loop .k) (c .before .before .before .loop .n) _ (c .before .before .before .loop .inv .2) (omega (arith, c .before .shared-slice-known3 .given (c .before .before .before .loop .k))) (c .lesser .ensures))
+loop-again c =
+    let l = c .before .before .before .loop in
+    (omega arith, omega arith, from-more _ _ _ (λ q a b. (omega (arith, l .inv .2 q a b .0, c .lesser .ensures), l .inv .2 q a b .1)) (omega (arith, c .lesser .ensures), omega (arith, c .before .shared-slice-known3 .given (l .k))))
 
 returns : tie.Need-returns Inv-loop μ-loop
 returns c = λ q a b. c .before .loop .inv .2 q a (omega (arith, c .loop-test .left))

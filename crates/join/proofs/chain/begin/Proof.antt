@@ -1,9 +1,9 @@
 -- `chain::begin` meets its contract. The loop's invariant: the first i blocks of A list nothing. Assumes nothing.
-use Prim.Native.Nat.{ℕ, _+_, _-_, _*_, _<_, _≤_}
+use Prim.Native.Nat.{ℕ, _-_, _*_, _<_, _≤_}
 use mathlib.Core.Path.{_≡_, subst}
 use mathlib.Core.List.{List}
-use native.Mathlib.Decide.{ℕ-discrete}
 use native.Mathlib.Omega.{arith}
+use borrow.Author.Count.{below-more}
 use lib.ListN.{getD}
 use Rattle.join.specs.Sizes.{blockRows, masterBlocks}
 use Rattle.join.specs.Blocks.{start}
@@ -12,13 +12,6 @@ use Rattle.join.proofs.chain.begin.Tie as tie
 
 opens : (live : List ℕ) (i r : ℕ) → r ≡ getD live (i * blockRows) 0 → r ≡ getD live (start 0 i) 0
 opens live i r e = subst (λ (k : ℕ). r ≡ getD live k 0) (omega arith) e
-
-none-on : (E : List ℕ) (i : ℕ) → ((k : ℕ) → k < i → getD E k 0 ≤ start 0 k) → getD E i 0 ≤ i * blockRows → (k : ℕ) → k < i + 1 → getD E k 0 ≤ start 0 k
-none-on E i f g k l = go (ℕ-discrete k i)
-  where
-    go : Dec (k ≡ i) → getD E k 0 ≤ start 0 k
-    go (yes d) = rw d (omega arith)
-    go (no d) = f k (omega arith)
 
 abbrev Inv-loop : tie.InvT-loop
 Inv-loop split live ends i₀ i = (i ≤ masterBlocks) × ((k : ℕ) → k < i → getD ends k 0 ≤ start 0 k)
@@ -54,7 +47,7 @@ loop-less : tie.Need-loop-less Inv-loop μ-loop
 loop-less c = omega (arith, c .before .before .loop-test .taken, c .before .before .before .before .before .before .pre)
 
 loop-again : tie.Need-loop-again Inv-loop μ-loop
-loop-again c = (omega (arith, c .before .before .loop-test .taken, c .before .before .before .before .before .before .pre), none-on (c .before .before .before .before .before .before .args .ends .now) (c .before .before .before .loop .i) (c .before .before .before .loop .inv .1) (c .if1 .left))
+loop-again c = (omega (arith, c .before .before .loop-test .taken, c .before .before .before .before .before .before .pre), below-more _ _ (c .before .before .before .loop .inv .1) (omega (arith, c .if1 .left)))
 
 returns-2 : tie.Need-returns-2 Inv-loop μ-loop
 returns-2 c = λ k l. c .before .loop .inv .1 k (omega (arith, c .loop-test .left))

@@ -1,8 +1,8 @@
 -- `nearest::clear` meets its contract: the positions are read back from their 16 bits. Assumes nothing.
-use lib.IntN.{pos}
-use lib.ListN.{getD}
 use borrow.Author.Needs.{needs}
-use Rattle.join.proofs.Laws.Pairs.{back}
+use Rattle.matching.proofs.Laws.Widths.{back}
+use Rattle.bounds.proofs.Laws.Places.{clear-cong}
+use Rattle.join.proofs.Laws.Pairs.{placed-back}
 use Rattle.join.proofs.nearest.clear.Statement.{statement}
 use Rattle.join.proofs.nearest.clear.Tie as tie
 
@@ -43,10 +43,18 @@ shared-slice-copy-out-clearance-6 : tie.Need-shared-slice-copy-out-clearance-6
 shared-slice-copy-out-clearance-6 c = search needs
 
 clearance-requires : tie.Need-clearance-requires
-clearance-requires c κs = rw (back (getD (c .before .before .before .before .before .before .args .xs .now) (c .before .before .before .before .before .before .args .t) (pos 0)) (c .before .before .before .before .before .clearance-arg .given), back (getD (c .before .before .before .before .before .before .args .ys .now) (c .before .before .before .before .before .before .args .t) (pos 0)) (c .before .before .before .before .clearance-arg2 .given), back (getD (c .before .before .before .before .before .before .args .west .now) (c .before .before .before .before .before .before .args .b) (pos 0)) (c .before .before .before .clearance-arg3 .given), back (getD (c .before .before .before .before .before .before .args .east .now) (c .before .before .before .before .before .before .args .b) (pos 0)) (c .before .before .clearance-arg4 .given), back (getD (c .before .before .before .before .before .before .args .south .now) (c .before .before .before .before .before .before .args .b) (pos 0)) (c .before .clearance-arg5 .given), back (getD (c .before .before .before .before .before .before .args .north .now) (c .before .before .before .before .before .before .args .b) (pos 0)) (c .clearance-arg6 .given)) (c .before .before .before .before .before .before .pre .0 .inside, c .before .before .before .before .before .before .pre .1 .inside, c .before .before .before .before .before .before .pre .2 .inside)
+clearance-requires c κs =
+    let p = c .before .before .before .before .before .before .pre in (
+      placed-back (p .0) (c .before .before .before .before .before .clearance-arg .given) (c .before .before .before .before .clearance-arg2 .given),
+      placed-back (p .1) (c .before .before .before .clearance-arg3 .given) (c .before .clearance-arg5 .given),
+      placed-back (p .2) (c .before .before .clearance-arg4 .given) (c .clearance-arg6 .given),
+    )
 
 returns : tie.Need-returns
-returns c = rw (back (getD (c .before .before .before .before .before .before .before .args .xs .now) (c .before .before .before .before .before .before .before .args .t) (pos 0)) (c .before .before .before .before .before .before .clearance-arg .given), back (getD (c .before .before .before .before .before .before .before .args .ys .now) (c .before .before .before .before .before .before .before .args .t) (pos 0)) (c .before .before .before .before .before .clearance-arg2 .given), back (getD (c .before .before .before .before .before .before .before .args .west .now) (c .before .before .before .before .before .before .before .args .b) (pos 0)) (c .before .before .before .before .clearance-arg3 .given), back (getD (c .before .before .before .before .before .before .before .args .east .now) (c .before .before .before .before .before .before .before .args .b) (pos 0)) (c .before .before .before .clearance-arg4 .given), back (getD (c .before .before .before .before .before .before .before .args .south .now) (c .before .before .before .before .before .before .before .args .b) (pos 0)) (c .before .before .clearance-arg5 .given), back (getD (c .before .before .before .before .before .before .before .args .north .now) (c .before .before .before .before .before .before .before .args .b) (pos 0)) (c .before .clearance-arg6 .given)) at (c .clearance .ensures)
+returns c =
+    clear-cong (back _ (c .before .before .before .before .before .before .clearance-arg .given)) (back _ (c .before .before .before .before .before .clearance-arg2 .given))
+    (back _ (c .before .before .before .before .clearance-arg3 .given)) (back _ (c .before .before .before .clearance-arg4 .given))
+    (back _ (c .before .before .clearance-arg5 .given)) (back _ (c .before .clearance-arg6 .given)) (c .clearance .ensures)
 
 pub clear-spec : {M : Type 1} → statement M
 clear-spec =

@@ -4,7 +4,7 @@ use native.Mathlib.Omega.{arith}
 use lib.IntN.{pos}
 use lib.ListN.{length, getD}
 use borrow.Author.Needs.{needs}
-use Rattle.join.proofs.Laws.Pairs.{back}
+use Rattle.matching.proofs.Laws.Widths.{back}
 use Rattle.join.proofs.Laws.Load.{Loading, loading-start, full-now, loading-on, loaded}
 use Rattle.join.proofs.rows.load.Statement.{statement}
 use Rattle.join.proofs.rows.load.Tie as tie

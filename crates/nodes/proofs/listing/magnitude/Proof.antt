@@ -1,6 +1,6 @@
 -- `nodes::listing::magnitude` meets its contract: 32 bits hold a position and its negation. Assumes nothing.
 use Prim.Native.Nat.{ℕ, suc, _<_, _^_}
-use mathlib.Core.Path.{_≡_, _∙_, ap}
+use mathlib.Core.Path.{_≡_, ap}
 use mathlib.Core.Bool.{true, false}
 use native.Mathlib.Nat.{zero-add}
 use native.Mathlib.Omega.{arith}
@@ -8,18 +8,12 @@ use lib.Dec.{T}
 use lib.IntN.{ℤ, pos, negsuc, natAbs, _-ℤ_}
 use lib.Signed.{ltZ, nonNeg}
 use mir.Syntax.{w16, w32}
-use mir.Val.{toZ, ofZ, Fits, SFits}
-use mir.Facts.{toZ-ofZ, sfits-widen}
+use mir.Val.{Fits, SFits}
+use mir.Facts.{toZ-ofZ}
 use borrow.Author.Tests.{ltb-true}
+use Rattle.matching.proofs.Laws.Widths.{widened, read-back}
 use Rattle.nodes.proofs.listing.magnitude.Statement.{statement}
 use Rattle.nodes.proofs.listing.magnitude.Tie as tie
-
--- a position fits 32 bits, and is read back from them
-wide : {z : ℤ} → SFits w16 z → SFits w32 (toZ w16 (ofZ w16 z))
-wide f = rw (toZ-ofZ f) (sfits-widen tt f)
-
-same : {z : ℤ} → SFits w16 z → toZ w32 (ofZ w32 (toZ w16 (ofZ w16 z))) ≡ z
-same f = toZ-ofZ (wide f) ∙ toZ-ofZ f
 
 small : (z : ℤ) → SFits w16 z → natAbs z < 2 ^ 16
 small (pos n) f = omega (arith, f .sfits)
@@ -34,26 +28,26 @@ plus (pos n) h f = (tt, record { fits = omega (arith, f .sfits) })
 plus (negsuc n) h f = absurd (let e : _≡_ {A = ℕ} 0 1 = cc in omega arith)
 
 cast-d : tie.Need-cast-d
-cast-d c = wide (c .fits .z)
+cast-d c = widened (c .fits .z)
 
 sub-result : tie.Need-sub-result
 sub-result c =
     let f = c .before .fits .z in
-    rw (same f, minus (c .before .args .z) (rw (same f) at (c .if1 .taken))) (record { sfits = omega (arith, small (c .before .args .z) f) })
+    rw (read-back f, minus (c .before .args .z) (rw (read-back f) at (c .if1 .taken))) (record { sfits = omega (arith, small (c .before .args .z) f) })
 
 cast-result : tie.Need-cast-result
 cast-result c =
     let f = c .before .fits .z in
-    rw (toZ-ofZ (sub-result c), same f, minus (c .before .args .z) (rw (same f) at (c .if1 .taken))) (tt, record { fits = omega (arith, small (c .before .args .z) f) })
+    rw (toZ-ofZ (sub-result c), read-back f, minus (c .before .args .z) (rw (read-back f) at (c .if1 .taken))) (tt, record { fits = omega (arith, small (c .before .args .z) f) })
 
 returns : tie.Need-returns
-returns c = let f = c .before .fits .z in rw (toZ-ofZ (sub-result c), same f, minus (c .before .args .z) (rw (same f) at (c .if1 .taken)))
+returns c = let f = c .before .fits .z in rw (toZ-ofZ (sub-result c), read-back f, minus (c .before .args .z) (rw (read-back f) at (c .if1 .taken)))
 
 cast-result-2 : tie.Need-cast-result-2
-cast-result-2 c = let f = c .before .fits .z in rw (same f) (plus (c .before .args .z) (rw (same f) at (c .if1 .left)) f)
+cast-result-2 c = let f = c .before .fits .z in rw (read-back f) (plus (c .before .args .z) (rw (read-back f) at (c .if1 .left)) f)
 
 returns-2 : tie.Need-returns-2
-returns-2 c = let f = c .before .fits .z in rw (same f)
+returns-2 c = let f = c .before .fits .z in rw (read-back f)
 
 pub magnitude-spec : {M : Type 1} → statement M
 magnitude-spec = tie.close (tie.spec cast-d sub-result cast-result returns cast-result-2 returns-2)

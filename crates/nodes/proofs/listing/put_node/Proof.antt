@@ -1,23 +1,13 @@
 -- `nodes::listing::put_node` meets its contract: four fields, one behind the other. Assumes nothing.
-use Prim.Native.Nat.{_<_, _^_}
-use mathlib.Core.Path.{_≡_}
 use mathlib.Core.List.{_++_}
 use native.Mathlib.Omega.{arith}
-use lib.IntN.{ℤ}
-use lib.Signed.{mag}
-use mir.Syntax.{w16}
-use mir.Val.{toZ, ofZ}
-use mir.Facts.{toZ-ofZ}
+use Rattle.matching.proofs.Laws.Widths.{back}
 use Rattle.player.specs.Definitions.Text.{bytes, field, lastField}
 use Rattle.player.specs.Laws.Text.{written-then}
 use Rattle.nodes.specs.Definitions.{position, entry}
 use borrow.Author.Needs.{needs}
 use Rattle.nodes.proofs.listing.put_node.Statement.{statement}
 use Rattle.nodes.proofs.listing.put_node.Tie as tie
-
--- a position is read back from its 16 bits
-back : {z : ℤ} → mag z < 2 ^ 15 → toZ w16 (ofZ w16 z) ≡ z
-back h = toZ-ofZ (record { sfits = h })
 
 put-field-requires : tie.Need-put-field-requires
 put-field-requires c κs = search needs
@@ -52,8 +42,8 @@ returns c =
     let Y = position (x .v .y) in (
       written-then t (N ++ X ++ Y) (lastField (bytes " ") (x .v .capacity)) _ _ (x .at) (h .result) (i .result) (omega (arith, f .ensures .1, g .ensures .1, h .ensures .1, s .pre .0, s .pre .1))
           (written-then t (N ++ X) Y _ _ (x .at) (g .result) (h .result) (omega (arith, f .ensures .1, g .ensures .1, s .pre .0, s .pre .1))
-          (written-then t N X _ _ (x .at) (f .result) (g .result) (omega (arith, f .ensures .1, s .pre .0, s .pre .1)) (f .ensures .0) (rw (back (c .before .before .before .before .before .before .before .before .before .before .before .before .before .struct-told .given .1 .0 .1)) at (g .ensures .0)))
-          (rw (back (c .before .before .before .before .before .before .before .before .struct-told2 .given .1 .1 .0 .1)) at (h .ensures .0)))
+          (written-then t N X _ _ (x .at) (f .result) (g .result) (omega (arith, f .ensures .1, s .pre .0, s .pre .1)) (f .ensures .0) (rw (back _ (c .before .before .before .before .before .before .before .before .before .before .before .before .before .struct-told .given .1 .0 .1)) at (g .ensures .0)))
+          (rw (back _ (c .before .before .before .before .before .before .before .before .struct-told2 .given .1 .1 .0 .1)) at (h .ensures .0)))
           (i .ensures .0),
       omega (arith, f .ensures .1, g .ensures .1, h .ensures .1, i .ensures .1, s .pre .1),
     )

@@ -1,6 +1,5 @@
 -- `blocks::around` meets its contract: the frame's rows are below end. Assumes nothing.
 use Prim.Native.Nat.{_-_, _≤_}
-use native.Mathlib.Omega.{arith}
 use borrow.Author.Needs.{needs}
 use Rattle.revise.specs.Rows.{Within}
 use Rattle.revise.proofs.blocks.around.Statement.{statement}

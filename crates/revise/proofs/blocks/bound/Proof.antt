@@ -2,7 +2,7 @@
 use native.Mathlib.Omega.{arith}
 use lib.IntN.{pos}
 use lib.ListN.{getD}
-use Rattle.join.proofs.Laws.Pairs.{back}
+use Rattle.matching.proofs.Laws.Widths.{back}
 use borrow.Author.Needs.{needs}
 use Rattle.revise.proofs.blocks.bound.Statement.{statement}
 use Rattle.revise.proofs.blocks.bound.Tie as tie
@@ -77,15 +77,21 @@ clearance-requires : tie.Need-clearance-requires
 clearance-requires c κs =
     let s = c .before .before .before .before .before .before .before .before .before .before .before .before .before .before .args in
     let i = c .before .before .before .before .before .before .before .before .before .before .before .before .before .before .pre .0 .inside in
+    let w = c .before .before .before .before .before .before .before .before .before .before .edge .result in
+    let e = c .before .before .before .before .before .before .before .before .before .edge2 .result in
+    let b = c .before .before .before .before .before .before .before .before .edge3 .result in
+    let t = c .before .before .before .before .before .before .before .edge4 .result in
+    let x = getD (s .xs .now) in
+    let y = getD (s .ys .now) in
     rw (
-      back (getD (s .xs .now) (s .t) (pos 0)) (c .before .before .before .before .before .clearance-arg .given),
-      back (getD (s .ys .now) (s .t) (pos 0)) (c .before .before .before .before .clearance-arg2 .given),
-      back (getD (s .xs .now) (c .before .before .before .before .before .before .before .before .before .before .edge .result) (pos 0)) (c .before .before .before .clearance-arg3 .given),
-      back (getD (s .xs .now) (c .before .before .before .before .before .before .before .before .before .edge2 .result) (pos 0)) (c .before .before .clearance-arg4 .given),
-      back (getD (s .ys .now) (c .before .before .before .before .before .before .before .before .edge3 .result) (pos 0)) (c .before .clearance-arg5 .given),
-      back (getD (s .ys .now) (c .before .before .before .before .before .before .before .edge4 .result) (pos 0)) (c .clearance-arg6 .given),
+      back (x (s .t) (pos 0)) (c .before .before .before .before .before .clearance-arg .given),
+      back (y (s .t) (pos 0)) (c .before .before .before .before .clearance-arg2 .given),
+      back (x w (pos 0)) (c .before .before .before .clearance-arg3 .given),
+      back (x e (pos 0)) (c .before .before .clearance-arg4 .given),
+      back (y b (pos 0)) (c .before .clearance-arg5 .given),
+      back (y t (pos 0)) (c .clearance-arg6 .given),
     )
-    (i (s .t) (omega arith), (i (c .before .before .before .before .before .before .before .before .before .before .edge .result) (omega arith) .0, i (c .before .before .before .before .before .before .before .before .edge3 .result) (omega arith) .1), (i (c .before .before .before .before .before .before .before .before .before .edge2 .result) (omega arith) .0, i (c .before .before .before .before .before .before .before .edge4 .result) (omega arith) .1))
+    (i (s .t) (omega arith), (i w (omega arith) .0, i b (omega arith) .1), (i e (omega arith) .0, i t (omega arith) .1))
 
 mul-pack : tie.Need-mul-pack
 mul-pack c = search needs

@@ -3,7 +3,7 @@ use Prim.Native.Nat.{_≤_, _-_}
 use mathlib.Core.Path.{_≡_, refl}
 use native.Mathlib.Omega.{arith}
 use lib.ListN.{length}
-use mir.Facts.{toZ-ofZ}
+use Rattle.matching.proofs.Laws.Widths.{back}
 use Rattle.revise.specs.Rows.{Copied}
 use Rattle.revise.proofs.Laws.Rows.{copied-start, copied-on}
 use borrow.Author.Needs.{needs}
@@ -41,7 +41,7 @@ loop-less : tie.Need-loop-less Inv-loop μ-loop
 loop-less c = search needs
 
 loop-again : tie.Need-loop-again Inv-loop μ-loop
-loop-again c = (search needs, search needs, rw (toZ-ofZ (record { sfits = c .to .given })) (copied-on _ _ _ _ _ (c .before .before .loop .inv .2) (omega arith)))
+loop-again c = (search needs, search needs, rw (back _ (c .to .given)) (copied-on _ _ _ _ _ (c .before .before .loop .inv .2) (omega arith)))
 
 same-length : tie.Need-same-length Inv-loop μ-loop
 same-length c = search needs

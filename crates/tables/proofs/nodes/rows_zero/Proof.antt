@@ -5,7 +5,7 @@ use mathlib.Core.Bool.{false≢true}
 use borrow.Author.Tests.{not-false}
 use native.Mathlib.Omega.{arith}
 use Rattle.tables.specs.Definitions.Sizes.{nodeRows}
-use Rattle.tables.specs.Laws.Search.{from-start, from-more}
+use Rattle.matching.specs.Laws.Loops.{from-start, from-more}
 use Rattle.tables.specs.Laws.Sound.{ZeroRow}
 use Rattle.tables.proofs.nodes.rows_zero.Statement.{statement}
 use Rattle.tables.proofs.nodes.rows_zero.Tie as tie

@@ -2,8 +2,7 @@
 use mathlib.Core.Path.{_∙_, ap}
 use borrow.Author.Needs.{needs}
 use lib.ListN.{set}
-use mir.Syntax.{w16}
-use mir.Facts.{toZ-ofZ}
+use Rattle.matching.proofs.Laws.Widths.{back}
 use Rattle.tables.specs.Definitions.Tables.{nodeFrom, rowNumber}
 use Rattle.tables.proofs.nodes.store.Statement.{statement}
 use Rattle.tables.proofs.nodes.store.Tie as tie
@@ -80,8 +79,8 @@ returns c =
     let a = c .before .before .before .before .before .before .before .args in
     record {
       numbers = ap (set (a .ns .now) (a .k)) (c .before .before .before .row-number .ensures);
-      across = ap (set (a .xs .now) (a .k)) (toZ-ofZ {w = w16} (record { sfits = c .before .before .position-at .ok }) ∙ c .before .before .position-at .ensures);
-      up = ap (set (a .ys .now) (a .k)) (toZ-ofZ {w = w16} (record { sfits = c .before .position-at2 .ok }) ∙ c .before .position-at2 .ensures);
+      across = ap (set (a .xs .now) (a .k)) (back (c .before .before .position-at .result) (c .before .before .position-at .ok) ∙ c .before .before .position-at .ensures);
+      up = ap (set (a .ys .now) (a .k)) (back (c .before .position-at2 .result) (c .before .position-at2 .ok) ∙ c .before .position-at2 .ensures);
       sizes = ap (set (a .ks .now) (a .k)) (c .two-at .ensures .0);
     }
 

@@ -1,8 +1,7 @@
 -- `tables::rows::position_good_at` meets its contract: what its callees say. Assumes nothing.
 use mathlib.Core.Path.{_∙_, ap}
 use borrow.Author.Needs.{needs}
-use mir.Syntax.{w16}
-use mir.Facts.{toZ-ofZ}
+use Rattle.matching.proofs.Laws.Widths.{back}
 use Rattle.tables.specs.Definitions.Tables.{positionGood}
 use Rattle.tables.proofs.rows.position_good_at.Statement.{statement}
 use Rattle.tables.proofs.rows.position_good_at.Tie as tie
@@ -14,7 +13,7 @@ position-good-requires : tie.Need-position-good-requires
 position-good-requires c κs = search needs
 
 returns : tie.Need-returns
-returns c = c .position-good .ensures ∙ ap positionGood (toZ-ofZ {w = w16} (record { sfits = c .before .position-at .ok }) ∙ c .before .position-at .ensures)
+returns c = c .position-good .ensures ∙ ap positionGood (back (c .before .position-at .result) (c .before .position-at .ok) ∙ c .before .position-at .ensures)
 
 pub position-good-at-spec : {M : Type 1} → statement M
 position-good-at-spec = tie.close (tie.spec position-at-requires position-good-requires returns)

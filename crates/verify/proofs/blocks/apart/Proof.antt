@@ -7,7 +7,8 @@ use native.Mathlib.Omega.{arith}
 use lib.IntN.{ℤ}
 use Rattle.matching.specs.Definitions.Pairs.{squaredDistance}
 use Rattle.bounds.specs.Boxes.{Gap}
-use Rattle.join.proofs.Laws.Pairs.{back}
+use Rattle.bounds.proofs.Laws.Places.{gap-cong}
+use Rattle.matching.proofs.Laws.Widths.{back}
 use Rattle.verify.specs.Blocks.{Holds}
 use Rattle.verify.proofs.blocks.apart.Statement.{statement}
 use Rattle.verify.proofs.blocks.apart.Tie as tie
@@ -18,20 +19,10 @@ gap-requires c κs = search needs
 -- the boxes' sides are read back from their 16 bits
 clear : (c : tie.After-gap) → let a = c .before .before .before .before .before .before .before .before .before .args in Gap (a .s .left) (a .s .right) (a .s .bottom) (a .s .top) (a .t .left) (a .t .right) (a .t .bottom) (a .t .top) (c .gap .result)
 clear c =
-    let a = c .before .before .before .before .before .before .before .before .before .args in
     let g = c .before .before .before .before .before .struct-told4 .given in
     let h = c .before .struct-told8 .given in
-    rw (
-      back (a .s .left) (g .0 .1),
-      back (a .s .right) (g .1 .0 .1),
-      back (a .s .bottom) (g .1 .1 .0 .1),
-      back (a .s .top) (g .1 .1 .1 .0 .1),
-      back (a .t .left) (h .0 .1),
-      back (a .t .right) (h .1 .0 .1),
-      back (a .t .bottom) (h .1 .1 .0 .1),
-      back (a .t .top) (h .1 .1 .1 .0 .1),
-    )
-    at (c .gap .ensures)
+    gap-cong (back _ (g .0 .1)) (back _ (g .1 .0 .1)) (back _ (g .1 .1 .0 .1)) (back _ (g .1 .1 .1 .0 .1))
+    (back _ (h .0 .1)) (back _ (h .1 .0 .1)) (back _ (h .1 .1 .0 .1)) (back _ (h .1 .1 .1 .0 .1)) (c .gap .ensures)
 
 away : (c : tie.After-gap) (u v : ℤ) (n f h : ℕ) (x y : ℤ) (m g k : ℕ) → let a = c .before .before .before .before .before .before .before .before .before .args in Holds (a .s) u v n f h → Holds (a .t) x y m g k → c .gap .result ≤ squaredDistance u v x y
 away c u v n f h x y m g k p q = clear c .nearest u v x y (p .left) (p .right) (p .bottom) (p .top) (q .left) (q .right) (q .bottom) (q .top)

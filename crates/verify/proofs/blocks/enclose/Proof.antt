@@ -3,7 +3,7 @@ use Prim.Native.Nat.{_≤_}
 use borrow.Author.Needs.{needs}
 use Rattle.verify.proofs.Laws.Blocks.{columns-reach, encloses}
 use lib.ListN.{length}
-use Rattle.join.proofs.Laws.Pairs.{back}
+use Rattle.matching.proofs.Laws.Widths.{back}
 use Rattle.verify.proofs.blocks.enclose.Statement.{statement}
 use Rattle.verify.proofs.blocks.enclose.Tie as tie
 

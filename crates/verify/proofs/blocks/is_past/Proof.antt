@@ -7,7 +7,10 @@ use native.Mathlib.Omega.{arith}
 use lib.IntN.{pos}
 use lib.ListN.{getD}
 use Rattle.bounds.specs.Boxes.{Clear}
-use Rattle.join.proofs.Laws.Pairs.{back}
+use Rattle.bounds.proofs.Laws.Places.{clear-cong}
+use Rattle.matching.specs.Laws.Distance.{inside-cong}
+use Rattle.matching.proofs.Laws.Widths.{back}
+use Rattle.join.proofs.Laws.Pairs.{placed-back}
 use Rattle.verify.proofs.blocks.is_past.Statement.{statement}
 use Rattle.verify.proofs.blocks.is_past.Tie as tie
 
@@ -50,32 +53,19 @@ clearance-requires : tie.Need-clearance-requires
 clearance-requires c κs =
     let a = c .before .before .before .before .before .before .before .before .before .before .before .before .before .before .args in
     let p = c .before .before .before .before .before .before .before .before .before .before .before .before .before .before .pre in
-    let g = c .struct-told4 .given in
-    rw (
-      back (getD (a .xs .now) (a .i) (pos 0)) (c .before .before .before .before .before .clearance-arg .given),
-      back (getD (a .ys .now) (a .i) (pos 0)) (c .before .before .before .before .clearance-arg2 .given),
-      back (a .s .left) (g .0 .1),
-      back (a .s .right) (g .1 .0 .1),
-      back (a .s .bottom) (g .1 .1 .0 .1),
-      back (a .s .top) (g .1 .1 .1 .0 .1),
+    let g = c .struct-told4 .given in (
+      placed-back (p .0 .placed) (c .before .before .before .before .before .clearance-arg .given) (c .before .before .before .before .clearance-arg2 .given),
+      inside-cong (back (a .s .left) (g .0 .1)) (back (a .s .bottom) (g .1 .1 .0 .1)) (p .1 .0),
+      inside-cong (back (a .s .right) (g .1 .0 .1)) (back (a .s .top) (g .1 .1 .1 .0 .1)) (p .1 .1),
     )
-    (p .0 .placed .inside, p .1 .0, p .1 .1)
 
 -- the box's sides are read back from their 16 bits
 clear : (c : tie.After-clearance)
     → let a = c .before .before .before .before .before .before .before .before .before .before .before .before .before .before .before .args in Clear (getD (a .xs .now) (a .i) (pos 0)) (getD (a .ys .now) (a .i) (pos 0)) (a .s .left) (a .s .right) (a .s .bottom) (a .s .top) (c .clearance .result)
 clear c =
-    let a = c .before .before .before .before .before .before .before .before .before .before .before .before .before .before .before .args in
     let g = c .before .struct-told4 .given in
-    rw (
-      back (getD (a .xs .now) (a .i) (pos 0)) (c .before .before .before .before .before .before .clearance-arg .given),
-      back (getD (a .ys .now) (a .i) (pos 0)) (c .before .before .before .before .before .clearance-arg2 .given),
-      back (a .s .left) (g .0 .1),
-      back (a .s .right) (g .1 .0 .1),
-      back (a .s .bottom) (g .1 .1 .0 .1),
-      back (a .s .top) (g .1 .1 .1 .0 .1),
-    )
-    at (c .clearance .ensures)
+    clear-cong (back _ (c .before .before .before .before .before .before .clearance-arg .given)) (back _ (c .before .before .before .before .before .clearance-arg2 .given))
+    (back _ (g .0 .1)) (back _ (g .1 .0 .1)) (back _ (g .1 .1 .0 .1)) (back _ (g .1 .1 .1 .0 .1)) (c .clearance .ensures)
 
 pack-requires-3 : tie.Need-pack-requires-3
 pack-requires-3 c κs = search needs

@@ -1,5 +1,5 @@
 -- `blocks::least` meets its contract: n is at most the numbers of the rows before k. Assumes nothing.
-use Rattle.verify.proofs.Laws.Blocks.{from-none, from-more}
+use Rattle.matching.specs.Laws.Loops.{from-start, from-more}
 use borrow.Author.Needs.{needs}
 use lib.ListN.{getD}
 use native.Mathlib.Omega.{arith}
@@ -20,7 +20,7 @@ shared-slice-read-n : tie.Need-shared-slice-read-n Inv-loop μ-loop
 shared-slice-read-n c = omega arith
 
 loop-holds : tie.Need-loop-holds Inv-loop μ-loop
-loop-holds c = (omega arith, from-none _ _)
+loop-holds c = (omega arith, from-start _ _)
 
 mul-lesser : tie.Need-mul-lesser Inv-loop μ-loop
 mul-lesser c = omega arith

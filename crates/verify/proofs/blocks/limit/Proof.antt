@@ -1,6 +1,6 @@
 -- `blocks::limit` meets its contract: p is at least the keys of the rows before k. Assumes nothing.
 use Rattle.join.specs.Sizes.{numberRange}
-use Rattle.verify.proofs.Laws.Blocks.{from-none, from-more}
+use Rattle.matching.specs.Laws.Loops.{from-start, from-more}
 use borrow.Author.Needs.{needs}
 use lib.ListN.{getD}
 use native.Mathlib.Omega.{arith}
@@ -15,7 +15,7 @@ abbrev μ-loop : tie.MeasureT-loop
 μ-loop far high first end p₀ k₀ p k = end - k
 
 loop-holds : tie.Need-loop-holds Inv-loop μ-loop
-loop-holds c = (omega arith, from-none _ _)
+loop-holds c = (omega arith, from-start _ _)
 
 mul-pack : tie.Need-mul-pack Inv-loop μ-loop
 mul-pack c = omega arith

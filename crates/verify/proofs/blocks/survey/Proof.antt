@@ -7,7 +7,7 @@ use native.Mathlib.Omega.{arith}
 use Prim.Native.Nat.{ℕ, _+_, _*_, _-_, _≤_, _<_, min}
 use Rattle.join.specs.Sizes.{blockRows, masterBlocks}
 use Rattle.verify.specs.Blocks.{Encloses, none}
-use Rattle.verify.proofs.Laws.Limits.{stored-below}
+use Rattle.matching.specs.Laws.Loops.{stored-below}
 use Rattle.verify.proofs.blocks.survey.Statement.{statement}
 use Rattle.verify.proofs.blocks.survey.Tie as tie
 

@@ -1,7 +1,7 @@
 -- `carried::bring` meets its contract. Assumes nothing.
 use mathlib.Core.Path.{refl}
 use native.Mathlib.Omega.{arith}
-use Rattle.join.proofs.Laws.Pairs.{back}
+use Rattle.matching.proofs.Laws.Widths.{back}
 use Rattle.verify.specs.Barred.{fresh, stayed}
 use borrow.Author.Needs.{needs}
 use Rattle.verify.proofs.carried.bring.Statement.{statement}

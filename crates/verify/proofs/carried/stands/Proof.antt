@@ -3,7 +3,7 @@ use borrow.Author.Tests.{not-false}
 use mathlib.Core.Bool.{false≢true}
 use mir.Facts.{toZ-ofZ}
 use native.Mathlib.Omega.{arith}
-use Rattle.join.proofs.Laws.Pairs.{back}
+use Rattle.matching.proofs.Laws.Widths.{back}
 use borrow.Author.Needs.{needs}
 use Rattle.verify.proofs.carried.stands.Statement.{statement}
 use Rattle.verify.proofs.carried.stands.Tie as tie

@@ -4,7 +4,7 @@ use native.Mathlib.Omega.{arith}
 use borrow.Author.Needs.{needs}
 use lib.ListN.{length}
 use Rattle.join.specs.Sizes.{blockRows}
-use Rattle.join.proofs.Laws.Pairs.{back}
+use Rattle.matching.proofs.Laws.Widths.{back}
 use Rattle.verify.specs.Lanes.{Sized, Lanes}
 use Rattle.verify.proofs.Laws.Lanes.{sized-on, lanes-on}
 use Rattle.verify.proofs.lanes.fill.Statement.{statement}

@@ -7,7 +7,7 @@ use native.Mathlib.Omega.{arith}
 use Prim.Native.Nat.{ℕ, _-_, _≤_, _<_}
 use Rattle.join.specs.Sizes.{masterRows}
 use Rattle.verify.specs.Later.{Taken, kept, taken}
-use Rattle.verify.proofs.Laws.Limits.{stored-both}
+use Rattle.matching.specs.Laws.Loops.{stored-both}
 use Rattle.verify.proofs.later.only_later.Statement.{statement}
 use Rattle.verify.proofs.later.only_later.Tie as tie
 

@@ -6,7 +6,7 @@ use lib.Seq.{ext-getD}
 use mathlib.Core.Path.{_≡_, refl}
 use native.Mathlib.Omega.{arith}
 use Prim.Native.Nat.{ℕ, _-_, _≤_, _<_}
-use Rattle.verify.proofs.Laws.Limits.{stored-below}
+use Rattle.matching.specs.Laws.Loops.{stored-below}
 use Rattle.verify.proofs.limits.copy.Statement.{statement}
 use Rattle.verify.proofs.limits.copy.Tie as tie
 

@@ -1,5 +1,5 @@
 -- `open::open_at` meets its contract: distances of inside positions leave room for the tie. Assumes nothing.
-use Rattle.verify.proofs.Laws.Whole.{across-fits}
+use Rattle.join.proofs.Laws.Pairs.{across-fits}
 use native.Mathlib.Omega.{arith}
 use borrow.Author.Needs.{needs}
 use Rattle.verify.proofs.open.open_at.Statement.{statement}

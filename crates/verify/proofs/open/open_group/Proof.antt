@@ -1,5 +1,5 @@
 -- `open::open_group` meets its contract: the pairs of the places from the block's first to i are shut. Assumes nothing.
-use Rattle.verify.proofs.Laws.Blocks.{from-none, from-more}
+use Rattle.matching.specs.Laws.Loops.{from-start, from-more}
 use Rattle.join.specs.Sizes.{blockRows}
 use Rattle.verify.specs.Open.{Shut}
 use native.Mathlib.Omega.{arith}
@@ -22,7 +22,7 @@ end-requires : tie.Need-end-requires Inv-loop μ-loop
 end-requires c κs = c .before .before .before .before .before .before .pre .0 .2
 
 loop-holds : tie.Need-loop-holds Inv-loop μ-loop
-loop-holds c = from-none _ _
+loop-holds c = from-start _ _
 
 open-in-requires : tie.Need-open-in-requires Inv-loop μ-loop
 open-in-requires c κs = let p = c .before .before .before .before .before .before .before .before .before .pre in ((p .0 .0 (c .before .loop .i) (omega (arith, c .before .before .end .ensures .1)), p .0 .1, p .0 .4, p .0 .5), p .1)

@@ -1,5 +1,5 @@
 -- `open::open_row` meets its contract: a count of 0 says that the pairs from first to j are shut. Assumes nothing.
-use Rattle.verify.proofs.Laws.Blocks.{from-none, from-more}
+use Rattle.matching.specs.Laws.Loops.{from-start, from-more}
 use Rattle.verify.specs.Open.{Shut}
 use native.Mathlib.Omega.{arith}
 use mathlib.Core.Path.{_≡_}
@@ -14,7 +14,7 @@ abbrev μ-loop : tie.MeasureT-loop
 μ-loop i first end an ax ay af ah bn bx by bf bh count₀ j₀ count j = end - j
 
 loop-holds : tie.Need-loop-holds Inv-loop μ-loop
-loop-holds c = (omega arith, λ z. from-none _ _)
+loop-holds c = (omega arith, λ z. from-start _ _)
 
 open-at-requires : tie.Need-open-at-requires Inv-loop μ-loop
 open-at-requires c κs = let p = c .before .before .before .before .before .before .before .before .pre in (p .0, p .1 (c .before .loop .j) (omega (arith, p .2)))
