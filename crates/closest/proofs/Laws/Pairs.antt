@@ -5,24 +5,19 @@ use mathlib.Core.List.{List}
 use native.Mathlib.Decide.{decLt}
 use native.Mathlib.Omega.{arith}
 use lib.ListN.{getD}
-use lib.IntN.{ℤ, negℤ, natAbs, _+ℤ_, _-ℤ_, negℤ-negℤ, negℤ-+ℤ, +ℤ-comm}
 use borrow.Author.Tests.{lt-ltb, le-ltb}
 use Rattle.matching.specs.Definitions.Nodes.{Master, masterA, masterB, each}
-use Rattle.matching.specs.Definitions.Pairs.{Pair, square, Before, nearer, lowerA, lowerB}
+use Rattle.matching.specs.Definitions.Pairs.{Pair, Before, nearer, lowerA, lowerB}
 use Rattle.matching.specs.Definitions.Sizes.{half, numberRange}
-use Rattle.matching.specs.Definitions.Rows.{On, Spanned, xAt, yAt, gap, key}
-use Rattle.matching.specs.Laws.Distance.{abs-neg}
+use Rattle.matching.specs.Definitions.Rows.{On, Spanned, key}
+use Rattle.matching.specs.Laws.Sets.{gap-swap}
 use Rattle.matching.specs.Laws.Order.{before-trans, before-irrefl}
 use Rattle.matching.specs.Laws.Earliest.{Leq, strictly, equally}
 use Rattle.closest.specs.Rows.{Rows, other, far, Faces, faces, rowPair, between, Sound}
 
 -- Distances are the same from either end.
-flip : (x y : ℤ) → square (x -ℤ y) ≡ square (y -ℤ x)
-flip x y = ap (λ (n : ℕ). n * n) (sym (abs-neg (x -ℤ y)) ∙ ap natAbs (negℤ-+ℤ x (negℤ y) ∙ ap (λ (z : ℤ). negℤ x +ℤ z) (negℤ-negℤ y) ∙ +ℤ-comm (negℤ x) y))
-
 pub far-swap : (R : Rows) (i k : ℕ) → far R i k ≡ far R k i
-unfolding gap
-far-swap R i k = ap₂ _+_ (flip (xAt (R .at) i) (xAt (R .at) k)) (flip (yAt (R .at) i) (yAt (R .at) k))
+far-swap R i k = gap-swap (R .at) i (R .at) k
 
 -- Distance, then number: the pair order of two pairs that share a node.
 abbrev pub rank : ℕ → ℕ → Pair

@@ -1,12 +1,12 @@
 -- Laws of nodes and links in rows.
 use Prim.Native.Nat.{ℕ, zero, suc, _+_, _-_, _*_, _≤_, _<_}
-use mathlib.Core.Path.{_≡_, sym, _∙_, ap, ap₂}
+use mathlib.Core.Path.{_≡_, sym, _∙_, ap}
 use mathlib.Core.List.{List, [], _∷_, _++_, List·Memᴰ, List·Memᴰ·head, List·Memᴰ·tail}
 use native.Mathlib.Nat.{zero-add}
 use native.Mathlib.Numerals.{add-one}
 use native.Mathlib.Decide.{ℕ-discrete}
 use native.Mathlib.Omega.{arith}
-use lib.IntN.{ℤ, pos, negsuc, negℤ, natAbs, _+ℤ_, _-ℤ_, negℤ-negℤ, negℤ-+ℤ, +ℤ-comm}
+use lib.IntN.{ℤ, pos, negsuc, natAbs}
 use lib.ListN.{length, getD, set}
 use lib.Seq.{getD-set-same, getD-set-other}
 use mir.Syntax.{w16}
@@ -15,12 +15,11 @@ use mir.Facts.{toZ-ofZ}
 use Rattle.matching.specs.declared.Spans.{Spans}
 use Rattle.matching.specs.Definitions.Lists.{All}
 use Rattle.matching.specs.Definitions.Nodes.{Master, Node, Unique}
-use Rattle.matching.specs.Definitions.Pairs.{square}
 use Rattle.matching.specs.Definitions.Links.{Link}
 use Rattle.matching.specs.Definitions.Columns.{tabulate, edge, Inside}
 use Rattle.matching.specs.Definitions.Rows.{range, On, xAt, yAt, gap, nodeIn, nodesOn, linkOf, linkIn, linksIn, Fit}
 use Rattle.matching.specs.Laws.Columns.{tabulate-length, tabulate-get, tabulate-all, tabulate-cong, tabulate-snoc}
-use Rattle.matching.specs.Laws.Distance.{abs-neg, inside-reach, distance-fits}
+use Rattle.matching.specs.Laws.Distance.{distance-swap, inside-reach, distance-fits}
 
 -- Two bytes hold a position inside, and it is read back from them.
 pub inside-fits : (z : ℤ) → natAbs z ≤ edge → SFits w16 z
@@ -88,12 +87,9 @@ unfolding linksIn
 in-all P L n h = tabulate-all P (linkIn L) 0 n (λ k l g. h k (omega arith))
 
 -- Distances are the same from either end, and below the greatest number of four bytes.
-flip : (x y : ℤ) → square (x -ℤ y) ≡ square (y -ℤ x)
-flip x y = ap (λ (n : ℕ). n * n) (sym (abs-neg (x -ℤ y)) ∙ ap natAbs (negℤ-+ℤ x (negℤ y) ∙ ap (λ (z : ℤ). negℤ x +ℤ z) (negℤ-negℤ y) ∙ +ℤ-comm (negℤ x) y))
-
 pub gap-swap : (at : List (List ℤ)) (i : ℕ) (to : List (List ℤ)) (k : ℕ) → gap at i to k ≡ gap to k at i
 unfolding gap
-gap-swap at i to k = ap₂ _+_ (flip (xAt at i) (xAt to k)) (flip (yAt at i) (yAt to k))
+gap-swap at i to k = distance-swap (xAt at i) (yAt at i) (xAt to k) (yAt to k)
 
 pub gap-fits : (at : List (List ℤ)) (i : ℕ) (to : List (List ℤ)) (k : ℕ) → Inside (xAt at i) (yAt at i) → Inside (xAt to k) (yAt to k) → gap at i to k < 4294967295
 unfolding gap
