@@ -40,7 +40,7 @@ pub node-length : (v : Node) → length (nodeBytes v) ≡ nodeSize
 unfolding nodeBytes natBytes
 node-length v = refl
 
-node-read : (v : Node) (r : List ℕ) → GoodNode v → nodeFrom (nodeBytes v ++ r) 0 ≡ v
+pub node-read : (v : Node) (r : List ℕ) → GoodNode v → nodeFrom (nodeBytes v ++ r) 0 ≡ v
 unfolding nodeFrom nodeBytes natBytes positionAt
 node-read v r g = λ i. record {
   number = nat-read numberSize (v .number) (natBytes positionSize (unsigned (v .x)) ++ (natBytes positionSize (unsigned (v .y)) ++ natBytes capacitySize (v .capacity)) ++ r) (g .high) i;
