@@ -78,7 +78,7 @@ module _ (l f : List ℕ) (i : ℕ) where
       at : (j : ℕ) → i ≤ j → j < i + linkSize → getD l j 0 ≡ getD f j 0
       at j a b = sym (byte l j a b) ∙ ap (λ (r : List ℕ). getD r (j - i) 0) rows ∙ byte f j a b
 
-  same-rows : Bytes l → Bytes f → i + linkSize ≤ length l → i + linkSize ≤ length f → allFrom same i linkSize ≡ sameLink (linkFrom l i) (linkFrom f i)
+  pub same-rows : Bytes l → Bytes f → i + linkSize ≤ length l → i + linkSize ≤ length f → allFrom same i linkSize ≡ sameLink (linkFrom l i) (linkFrom f i)
   same-rows bl bf hl hf = go (allFrom same i linkSize) refl (sameLink (linkFrom l i) (linkFrom f i)) refl
     where
       go : (s : Bool) → allFrom same i linkSize ≡ s → (t : Bool) → sameLink (linkFrom l i) (linkFrom f i) ≡ t → s ≡ t

@@ -50,7 +50,7 @@ unfolding linksFrom
 links-last l k h = let e : linkRows - k ≡ 0 = omega arith in rw e
 
 -- and otherwise one more.
-links-on : (l : List ℕ) (k : ℕ) → k < linkRows → (natAt numberSize l (linkSize * k) ≡ 0 → ⊥) → linksFrom l k (linkRows - k) ≡ linkFrom l (linkSize * k) ∷ linksFrom l (k + 1) (linkRows - (k + 1))
+pub links-on : (l : List ℕ) (k : ℕ) → k < linkRows → (natAt numberSize l (linkSize * k) ≡ 0 → ⊥) → linksFrom l k (linkRows - k) ≡ linkFrom l (linkSize * k) ∷ linksFrom l (k + 1) (linkRows - (k + 1))
 unfolding linksFrom
 links-on l k h z = let e : linkRows - k ≡ suc (linkRows - (k + 1)) = omega arith in rw (e, ne-eqb (natAt numberSize l (linkSize * k)) 0 z, add-one k)
 
