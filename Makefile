@@ -2,6 +2,7 @@
 # make run           builds the replay program and replays a sample drawing: its links before and after two edits
 # make proved        proves every crate and prints what is proved
 # make bench         whole calls timed beside two peers in safe Rust; ONLY=edit picks the calls with that in their name
+# make worst         a search for the slowest edit, for SECONDS=n; it prints the edit and its drawing, and CASE=file times one again
 # make stack         the stack that each call uses at 512 x 512 nodes; fails at 128 KB
 # make edits         the must-fail edits that the gate leaves out for time
 # make fuzz          the calls beside the model on fresh seeds, for SECONDS=n (60)
@@ -10,7 +11,7 @@
 # make pictures      draws docs/pictures from what the engine gives
 # make reproducible  builds the archive in two clones and compares them; proves everything twice
 # make help          this list
-.PHONY: help test run bench stack stack-run edits fuzz fuzz-guided proved install pictures reproducible
+.PHONY: help test run bench worst stack stack-run edits fuzz fuzz-guided proved install pictures reproducible
 
 SECONDS = 60
 PREFIX = /usr/local
@@ -34,6 +35,9 @@ proved:
 
 bench: $(archive)
 	@ONLY="$(ONLY)" cargo run --release --offline --manifest-path rust/bench/Cargo.toml
+
+worst: $(archive)
+	@SECONDS=$(SECONDS) CASE="$(CASE)" cargo run --release --offline --manifest-path rust/bench/Cargo.toml --bin worst
 
 stack: $(archive)
 	@$(MAKE) -s stack-run

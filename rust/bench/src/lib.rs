@@ -9,7 +9,9 @@
 //! - [`bytes`]: tables to nodes and links to a list, as both peers do it.
 //! - [`measure`]: the three by turns on the same calls, timed by [`clock`] and compared.
 //! - [`count`]: the instructions of one fixed case.
-//! - [`report`], [`aims`]: the tables, and what was to be reached.
+//! - [`report`], [`aims`]: the tables, and what was to be reached; [`files`]: where they go.
+//! - [`trial`], [`hard`]: a drawing with an edit of it; those that change most links.
+//! - [`worst`], [`changes`]: a search for the slowest edit.
 
 pub mod aims;
 pub mod blocks;
@@ -17,9 +19,12 @@ pub mod bytes;
 pub mod calls;
 pub mod cases;
 pub mod chain;
+pub mod changes;
 pub mod check;
 pub mod clock;
 pub mod count;
+pub mod files;
+pub mod hard;
 pub mod measure;
 pub mod order;
 pub mod peer;
@@ -28,3 +33,5 @@ pub mod revise;
 pub mod same;
 pub mod shapes;
 pub mod sorted;
+pub mod trial;
+pub mod worst;

@@ -2,13 +2,13 @@
 //! their name; a run of all calls also writes its tables and lines to target/bench, where tools/chart finds them.
 
 use std::env;
-use std::fs;
-use std::path::Path;
 use std::process::ExitCode;
 
 use bench::aims::aims;
-use bench::cases::{Call, CALLS};
+use bench::cases::{Call, CALLS, EDITS};
 use bench::count;
+use bench::files::write;
+use bench::hard;
 use bench::measure::{Bench, Line};
 use bench::report::*;
 use bench::shapes::Class;
@@ -62,6 +62,14 @@ fn measure(calls: &[Call]) -> Result<Vec<Line>, String> {
     Ok(lines)
 }
 
+/// Where edits are timed.
+fn hard_table(calls: &[Call]) -> String {
+    match EDITS.iter().all(|edit| calls.contains(edit)) {
+        true => hard::table(),
+        false => String::new(),
+    }
+}
+
 fn tables(lines: &[Line], calls: &[Call]) -> String {
     let counted = match count::instructions(calls) {
         Ok(counts) => instructions(&counts),
@@ -83,6 +91,10 @@ fn tables(lines: &[Line], calls: &[Call]) -> String {
             by_family(lines),
         ),
         (
+            "Edits that change most links, at 512 nodes a side: the least of some runs",
+            hard_table(calls),
+        ),
+        (
             "By nodes a side: the engine's median in the slowest family, µs",
             by_size(lines),
         ),
@@ -96,12 +108,4 @@ fn tables(lines: &[Line], calls: &[Call]) -> String {
         .map(|(name, table)| format!("**{name}**\n\n{table}"))
         .collect();
     texts.join("\n")
-}
-
-fn write(name: &str, text: &str) -> Result<(), String> {
-    let folder = Path::new(env!("CARGO_MANIFEST_DIR")).join("../../target/bench");
-    let path = folder.join(name);
-    fs::create_dir_all(&folder)
-        .and_then(|()| fs::write(&path, text))
-        .map_err(|why| format!("{}: {why}", path.display()))
 }

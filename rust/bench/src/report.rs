@@ -62,7 +62,7 @@ pub fn whole(number: f64) -> String {
     text
 }
 
-fn ratio(number: f64) -> String {
+pub fn ratio(number: f64) -> String {
     format!("{number:.2}")
 }
 
@@ -114,12 +114,12 @@ pub fn lines_text(lines: &[Line]) -> String {
     text
 }
 
-fn row<T: AsRef<str>>(fields: &[T]) -> String {
+pub fn row<T: AsRef<str>>(fields: &[T]) -> String {
     let fields: Vec<&str> = fields.iter().map(AsRef::as_ref).collect();
     format!("| {} |\n", fields.join(" | "))
 }
 
-fn head(fields: &[&str]) -> String {
+pub fn head(fields: &[&str]) -> String {
     row(fields) + &row(&vec!["---"; fields.len()])
 }
 

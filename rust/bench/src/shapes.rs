@@ -189,7 +189,7 @@ impl Class {
     }
 }
 
-#[derive(Clone, Debug)]
+#[derive(Clone, Debug, PartialEq)]
 pub struct Drawing {
     pub a: Vec<Node>,
     pub b: Vec<Node>,
