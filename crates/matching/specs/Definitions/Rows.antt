@@ -6,7 +6,7 @@ use lib.ListN.{length, getD}
 use lib.IntN.{ℤ, pos}
 use Rattle.matching.specs.declared.Range.{Range}
 use Rattle.matching.specs.declared.Spans.{Spans}
-use Rattle.matching.specs.Definitions.Nodes.{Master, each, Node}
+use Rattle.matching.specs.Definitions.Nodes.{Master, each, Node, Reordered}
 use Rattle.matching.specs.Definitions.Pairs.{squaredDistance}
 use Rattle.matching.specs.Definitions.Links.{Link}
 use Rattle.matching.specs.Definitions.Join.{join}
@@ -85,6 +85,11 @@ pub record Fit (ns : List ℕ) (at : List (List ℤ)) (cs : List ℕ) (s : Spans
   pub spans : Spanned s
   pub inside : (m : Master) (k : ℕ) → On s m k → Inside (xAt at k) (yAt at k)
   pub distinct : (m : Master) (i k : ℕ) → On s m i → On s m k → getD ns i 0 ≡ getD ns k 0 → i ≡ k
+
+-- The set's rows are the nodes of both masters, each master's in some order.
+pub record Represents (A B : List Node) (ns : List ℕ) (at : List (List ℤ)) (cs : List ℕ) (s : Spans) : Type 0 where
+  pub fit : Fit ns at cs s
+  pub nodes : (m : Master) → Reordered (each A B m) (nodesOn s ns at cs m)
 
 -- The first n of the link rows are the join of two masters.
 pub record Joined (A B : List Node) (L : List (List ℕ)) (n : ℕ) : Type 0 where
