@@ -1,10 +1,10 @@
--- `pairing::perform::perform` meets its contract: by the edit's kind. Assumes nothing.
+-- `verdicts::perform::perform` meets its contract: by the edit's kind. Assumes nothing.
 use mathlib.Core.Path.{refl, sym, _∙_, ap}
 use Rattle.tables.specs.Laws.Changes.{changeOf}
-use Rattle.pairing.specs.Laws.Edit.{kind-known, kind-none}
+use Rattle.verdicts.specs.Laws.Edit.{kind-known, kind-none}
 use borrow.Author.Needs.{needs}
-use Rattle.pairing.proofs.perform.perform.Statement.{statement}
-use Rattle.pairing.proofs.perform.perform.Tie as tie
+use Rattle.verdicts.proofs.perform.perform.Statement.{statement}
+use Rattle.verdicts.proofs.perform.perform.Tie as tie
 
 kind-of-requires : tie.Need-kind-of-requires
 kind-of-requires c κs = search needs

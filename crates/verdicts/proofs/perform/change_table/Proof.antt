@@ -1,15 +1,15 @@
--- `pairing::perform::change_table` meets its contract: the number and the fields, its place, and the change applied. Assumes nothing.
+-- `verdicts::perform::change_table` meets its contract: the number and the fields, its place, and the change applied. Assumes nothing.
 use Prim.Native.Nat.{ℕ}
 use mathlib.Core.Path.{_≡_, refl, sym, _∙_, subst}
 use borrow.Author.Tests.{not-true, not-false}
 use Rattle.tables.specs.Definitions.Tables.{nodesIn}
 use Rattle.tables.specs.Definitions.Edits.{numberOf}
 use Rattle.tables.specs.Laws.Find.{RowOf}
-use Rattle.pairing.specs.Edit.{nodeAnswer}
-use Rattle.pairing.specs.Laws.Edit.{node-zero, node-fields, node-place, place-applies, applied-none, applied-done}
+use Rattle.verdicts.specs.Edit.{nodeAnswer}
+use Rattle.verdicts.specs.Laws.Edit.{node-zero, node-fields, node-place, place-applies, applied-none, applied-done}
 use borrow.Author.Needs.{needs}
-use Rattle.pairing.proofs.perform.change_table.Statement.{statement}
-use Rattle.pairing.proofs.perform.change_table.Tie as tie
+use Rattle.verdicts.proofs.perform.change_table.Statement.{statement}
+use Rattle.verdicts.proofs.perform.change_table.Tie as tie
 
 number-of-requires : tie.Need-number-of-requires
 number-of-requires c κs = search needs

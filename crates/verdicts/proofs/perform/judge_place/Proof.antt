@@ -1,10 +1,10 @@
--- `pairing::perform::judge_place` meets its contract: the arms are the definition's tests. Assumes nothing.
+-- `verdicts::perform::judge_place` meets its contract: the arms are the definition's tests. Assumes nothing.
 use borrow.Author.Tests.{eq-eqb, ne-eqb, lt-ltb, le-ltb}
-use Rattle.pairing.specs.Edit.{placeAnswer}
-use Rattle.pairing.specs.Laws.Edit.{no-arrival}
+use Rattle.verdicts.specs.Edit.{placeAnswer}
+use Rattle.verdicts.specs.Laws.Edit.{no-arrival}
 use borrow.Author.Needs.{needs}
-use Rattle.pairing.proofs.perform.judge_place.Statement.{statement}
-use Rattle.pairing.proofs.perform.judge_place.Tie as tie
+use Rattle.verdicts.proofs.perform.judge_place.Statement.{statement}
+use Rattle.verdicts.proofs.perform.judge_place.Tie as tie
 
 enum-told : tie.Need-enum-told
 enum-told c = search needs

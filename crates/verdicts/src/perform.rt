@@ -6,7 +6,7 @@ ghost use Rattle.tables.specs.Definitions.Sizes.{editSize, nodeRows, tableSize}
 ghost use Rattle.tables.specs.Definitions.Tables.{nodesIn};
 ghost use Rattle.tables.specs.Definitions.Edits.{kindOf};
 ghost use Rattle.tables.specs.Laws.Changes.{changeOf, arrives};
-ghost use Rattle.pairing.specs.Edit.{placeAnswer, nodeAnswer, masterAnswer, editAnswer, Applied, Performed};
+ghost use Rattle.verdicts.specs.Edit.{placeAnswer, nodeAnswer, masterAnswer, editAnswer, Applied, Performed};
 use contract::Answer;
 use contract::Refusal;
 use tables::edits::Change;

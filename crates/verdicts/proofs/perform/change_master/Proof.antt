@@ -1,10 +1,10 @@
--- `pairing::perform::change_master` meets its contract: the table of the edit's master. Assumes nothing.
+-- `verdicts::perform::change_master` meets its contract: the table of the edit's master. Assumes nothing.
 use mathlib.Core.Path.{refl, sym, _∙_}
-use Rattle.pairing.specs.Laws.Edit.{master-a, master-b, master-none}
-use Rattle.pairing.specs.Laws.Edited.{performed-a, performed-b}
+use Rattle.verdicts.specs.Laws.Edit.{master-a, master-b, master-none}
+use Rattle.verdicts.specs.Laws.Edit.{performed-a, performed-b}
 use borrow.Author.Needs.{needs}
-use Rattle.pairing.proofs.perform.change_master.Statement.{statement}
-use Rattle.pairing.proofs.perform.change_master.Tie as tie
+use Rattle.verdicts.proofs.perform.change_master.Statement.{statement}
+use Rattle.verdicts.proofs.perform.change_master.Tie as tie
 
 master-of-requires : tie.Need-master-of-requires
 master-of-requires c κs = search needs
