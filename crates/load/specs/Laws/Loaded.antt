@@ -4,19 +4,19 @@ use mathlib.Core.Path.{_≡_, refl, sym, _∙_, ap, subst}
 use mathlib.Core.List.{List}
 use native.Mathlib.Omega.{arith}
 use lib.IntN.{ℤ}
-use lib.ListN.{getD}
+use lib.ListN.{length, getD}
 use Rattle.matching.specs.declared.Range.{Range}
 use Rattle.matching.specs.declared.Spans.{Spans}
 use Rattle.matching.specs.Definitions.Lists.{All}
 use Rattle.matching.specs.Definitions.Nodes.{Master, masterA, masterB, each, Node, Unique, Reordered}
 use Rattle.matching.specs.Definitions.Columns.{tabulate}
-use Rattle.matching.specs.Definitions.Sizes.{half}
+use Rattle.matching.specs.Definitions.Sizes.{nodeRows, half, setRows}
 use Rattle.matching.specs.Definitions.Rows.{range, On, xAt, yAt, nodeIn, nodesOn, Represents}
 use Rattle.matching.specs.Laws.Lists.{all-at}
 use Rattle.matching.specs.Laws.Columns.{tabulate-length, tabulate-get, tabulate-all, tabulate-cong, same-place}
 use Rattle.matching.specs.Laws.Sets.{on-in, on-length}
 use Rattle.matching.specs.Theorems.RowOrder.{reordered-all, reordered-unique, reordered-back}
-use Rattle.tables.specs.Definitions.Tables.{nodesIn, Accepted, GoodNode}
+use Rattle.tables.specs.Definitions.Tables.{nodesIn, Accepted, GoodNode, GoodNodes}
 use Rattle.tables.specs.Laws.Accepted.{nodes-good}
 use Rattle.load.specs.Load.{Decoded, Loaded}
 use Rattle.load.specs.Index.{Distinct, Named}
@@ -60,9 +60,8 @@ loaded {a} {b} {n} {m} {ns' = ns'} {at' = at'} {cs' = cs'} {ns'' = ns''} {at'' =
     kept = tabulate-cong (nodeIn ns' at' cs') (nodeIn ns'' at'' cs'') 0 n (λ k l h. sym (same-node (q .apart k (λ g z. omega (arith, p .most)))))
 
     nodes : (o : Master) → Reordered (nodesIn (each a b o)) (nodesOn s ns'' at'' cs'' o)
-    unfolding nodesOn
-    nodes masterA = subst (λ (A : List Node). Reordered (nodesIn a) A) (kept ∙ ap (tabulate (nodeIn ns'' at'' cs'') 0) size-a) (p .nodes)
-    nodes masterB = subst (λ (A : List Node). Reordered (nodesIn b) A) (ap (tabulate (nodeIn ns'' at'' cs'') half) size-b) (q .nodes)
+    nodes masterA = unfold nodesOn in subst (λ (A : List Node). Reordered (nodesIn a) A) (kept ∙ ap (tabulate (nodeIn ns'' at'' cs'') 0) size-a) (p .nodes)
+    nodes masterB = unfold nodesOn in subst (λ (A : List Node). Reordered (nodesIn b) A) (ap (tabulate (nodeIn ns'' at'' cs'') half) size-b) (q .nodes)
 
 -- Nodes in rows of distinct numbers.
 rows-unique : (ns : List ℕ) (at : List (List ℤ)) (cs : List ℕ) (k n : ℕ)
@@ -99,8 +98,7 @@ module _ {a b ns : List ℕ} {at : List (List ℤ)} {cs : List ℕ} {s : Spans} 
       end masterB = l .spans .end
 
       unique : Distinct (range s m) ns → Unique (nodesOn s ns at cs m)
-      unfolding nodesOn
-      unique d = rows-unique ns at cs (range s m .from) (range s m .to - range s m .from) (λ i j a b c e. d i j a (omega (arith, order m)) c (omega (arith, order m)))
+      unique d = unfold nodesOn in rows-unique ns at cs (range s m .from) (range s m .to - range s m .from) (λ i j a b c e. d i j a (omega (arith, order m)) c (omega (arith, order m)))
 
   -- Accepted tables are represented by their rows.
   pub loaded-represents : Accepted a → Accepted b → Represents (nodesIn a) (nodesIn b) ns at cs s
@@ -124,5 +122,17 @@ module _ {a b ns : List ℕ} {at : List (List ℤ)} {cs : List ℕ} {s : Spans} 
       nodes masterA = l .nodes masterA
       nodes masterB = l .nodes masterB
 
+      node : (m : Master) (i : ℕ) (d : Node) → On s m i → getD (nodesOn s ns at cs m) (i - range s m .from) d ≡ nodeIn ns at cs i
+      node m i d h =
+          unfold nodesOn in
+          let z : range s m .from + (i - range s m .from) ≡ i = omega (arith, h .0) in
+          tabulate-get (nodeIn ns at cs) (range s m .from) (range s m .to - range s m .from) (i - range s m .from) d (omega (arith, h .0, h .1)) ∙ ap (nodeIn ns at cs) z
+
       distinct : (m : Master) (i k : ℕ) → On s m i → On s m k → getD ns i 0 ≡ getD ns k 0 → i ≡ k
-      distinct m i k h g e = ?
+      distinct m i k h g e =
+          let d = nodeIn ns at cs 0 in
+          let j : i - range s m .from ≡ k - range s m .from =
+              same-place (nodesOn s ns at cs m) (i - range s m .from) (k - range s m .from) d (reordered-unique (l .nodes m) (good m .unique))
+              (omega (arith, on-length s ns at cs m, h .0, h .1)) (omega (arith, on-length s ns at cs m, g .0, g .1))
+              (ap (λ (v : Node). v .number) (node m i d h) ∙ e ∙ sym (ap (λ (v : Node). v .number) (node m k d g))) in
+          omega (arith, h .0, g .0)

@@ -1,58 +1,43 @@
+-- `fault::sound` meets its contract: good rows, zero rows after them and distinct numbers leave no fault. Assumes nothing.
+use mathlib.Core.Bool.{false≢true}
+use native.Mathlib.Omega.{arith}
 use borrow.Author.Needs.{needs}
+use borrow.Author.Tests.{not-false}
+use Rattle.load.specs.Laws.Sound.{faultless}
 use Rattle.load.proofs.fault.sound.Statement.{statement}
 use Rattle.load.proofs.fault.sound.Tie as tie
-use Rattle.load.proofs.fault.sound.Reads as reads
-use Rattle.load.proofs.fault.sound.Lts as lts
-use Rattle.load.proofs.fault.rows_good.Reads as rows-good-reads
-use Rattle.load.proofs.fault.rows_zero.Reads as rows-zero-reads
-use Rattle.load.proofs.index.index.Reads as index-reads
 
--- src/fault.rt:67:13
-sub-n : tie.Need-sub-n
-sub-n c = search needs
-
--- src/fault.rt:68:9
-rows-good-requires : tie.Need-rows-good-requires
-rows-good-requires c κs = search needs
-
--- src/fault.rt:69:9
 returns : tie.Need-returns
-returns c = ?
+returns c = (λ h. absurd (false≢true h), search needs)
 
--- src/fault.rt:71:9
-rows-zero-requires : tie.Need-rows-zero-requires
-rows-zero-requires c κs = search needs
-
--- src/fault.rt:72:9
 returns-2 : tie.Need-returns-2
-returns-2 c = ?
+returns-2 c = (λ h. absurd (false≢true h), search needs)
 
--- src/fault.rt:74:5
-index-requires : tie.Need-index-requires
-index-requires c κs = search needs
-
--- src/fault.rt:63:1
-same-length : tie.Need-same-length
-same-length c = search needs
-
--- src/fault.rt:63:1
-same-length-2 : tie.Need-same-length-2
-same-length-2 c = search needs
-
--- src/fault.rt:63:1
 returns-3 : tie.Need-returns-3
-returns-3 c = ?
+returns-3 c =
+    let chained = c .before .before .before .before in
+    let zeros = chained .before .before .before in
+    let good = zeros .before .before in
+    let named = good .before .before .before .before .before .before .before .pre .1 in
+    (
+      λ h.
+        faultless _
+        (λ k l. good .before .rows-good .ensures (not-false _ (good .if1 .left)) k (omega (arith, named .count)))
+        (λ k l m. zeros .before .rows-zero .ensures (not-false _ (zeros .if2 .left)) k (omega (arith, named .count)) m)
+        (named .unique (chained .index .ensures .0 h)),
+      chained .index .ensures .1,
+    )
 
 pub sound-spec : {M : Type 1} → statement M
 sound-spec =
     tie.close
     (tie.spec
-    sub-n
-    rows-good-requires
+    (λ c. search needs)
+    (λ c κs. search needs)
     returns
-    rows-zero-requires
+    (λ c κs. search needs)
     returns-2
-    index-requires
-    same-length
-    same-length-2
+    (λ c κs. search needs)
+    (λ c. search needs)
+    (λ c. search needs)
     returns-3)
