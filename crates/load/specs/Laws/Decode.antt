@@ -5,7 +5,7 @@ use mathlib.Core.List.{List, [], _∷_, _++_, append-assoc, append-nil}
 use native.Mathlib.Numerals.{add-one}
 use native.Mathlib.Omega.{arith}
 use lib.IntN.{ℤ}
-use lib.ListN.{length, getD, set, length-set}
+use lib.ListN.{length, getD, length-set}
 use lib.Seq.{getD-set-same, getD-set-other}
 use Rattle.matching.specs.declared.Range.{Range}
 use Rattle.matching.specs.Definitions.Nodes.{Node, Reordered, same, then}
@@ -25,11 +25,12 @@ pub same-node : {k : ℕ} {ns : List ℕ} {at : List (List ℤ)} {cs ns' : List 
 same-node s = λ t. record { number = s .number t; x = across (s .position t); y = upward (s .position t); capacity = s .capacity t }
 
 -- A row stays as it was twice.
-pub same-then : {k : ℕ} {ns : List ℕ} {at : List (List ℤ)} {cs ns' : List ℕ} {at' : List (List ℤ)} {cs' ns'' : List ℕ} {at'' : List (List ℤ)} {cs'' : List ℕ}
+same-then : {k : ℕ} {ns : List ℕ} {at : List (List ℤ)} {cs ns' : List ℕ} {at' : List (List ℤ)} {cs' ns'' : List ℕ} {at'' : List (List ℤ)} {cs'' : List ℕ}
     → Same k ns at cs ns' at' cs' → Same k ns' at' cs' ns'' at'' cs'' → Same k ns at cs ns'' at'' cs''
 same-then p q = record { number = q .number ∙ p .number; position = q .position ∙ p .position; capacity = q .capacity ∙ p .capacity }
 
-module _ {v : Node} {i : ℕ} {ns : List ℕ} {at : List (List ℤ)} {cs ns' : List ℕ} {at' : List (List ℤ)} {cs' : List ℕ} (s : Stored v i ns at cs ns' at' cs') where
+module _ {v : Node} {i : ℕ} {ns : List ℕ} {at : List (List ℤ)} {cs ns' : List ℕ} {at' : List (List ℤ)} {cs' : List ℕ}
+    (s : Stored v i ns at cs ns' at' cs') where
   pub stored-columns : Columns ns at cs → Columns ns' at' cs'
   stored-columns c = record {
     numbers = ap length (s .number) ∙ length-set ns i (v .number) ∙ c .numbers;
@@ -41,7 +42,7 @@ module _ {v : Node} {i : ℕ} {ns : List ℕ} {at : List (List ℤ)} {cs ns' : L
   pub stored-node : Columns ns at cs → i < setRows → nodeIn ns' at' cs' i ≡ v
   stored-node c h =
       let p : getD at' i [] ≡ v .x ∷ v .y ∷ [] =
-          ap (λ (l : List (List ℤ)). getD l i []) (s .position) ∙ getD-set-same at i (v .x ∷ v .y ∷ []) [] (omega (arith, c .positions)) in
+      ap (λ (l : List (List ℤ)). getD l i []) (s .position) ∙ getD-set-same at i (v .x ∷ v .y ∷ []) [] (omega (arith, c .positions)) in
       λ t. record {
         number = (ap (λ (l : List ℕ). getD l i 0) (s .number) ∙ getD-set-same ns i (v .number) 0 (omega (arith, c .numbers))) t;
         x = across (p t);
@@ -112,8 +113,9 @@ module _ {t : List ℕ} {from : ℕ} {ns : List ℕ} {at : List (List ℤ)} {cs 
         apart = λ j g. same-then (p .apart j (λ a b. g a (omega arith))) (stored-other s j (λ d. g (omega arith) (omega arith)));
       }
 
--- What is decoded and put in order is decoded,
-pub decoded-packed : {t : List ℕ} {r : Range} {n : ℕ} {ns : List ℕ} {at : List (List ℤ)} {cs ns' : List ℕ} {at' : List (List ℤ)} {cs' ns'' : List ℕ} {at'' : List (List ℤ)} {cs'' : List ℕ}
+-- What is decoded and put in order is decoded.
+pub decoded-packed : {t : List ℕ} {r : Range} {n : ℕ} {ns : List ℕ} {at : List (List ℤ)} {cs ns' : List ℕ} {at' : List (List ℤ)} {cs' : List ℕ}
+    {ns'' : List ℕ} {at'' : List (List ℤ)} {cs'' : List ℕ}
     → r .to ≡ r .from + n → Decoded t (r .from) n ns at cs ns' at' cs' → Packed r ns' at' cs' ns'' at'' cs'' → Decoded t (r .from) n ns at cs ns'' at'' cs''
 decoded-packed {r = r} {n = n} {ns' = ns'} {at' = at'} {cs' = cs'} {ns'' = ns''} {at'' = at''} {cs'' = cs''} e d p =
     let size : r .to - r .from ≡ n = omega arith in

@@ -5,25 +5,24 @@ use mathlib.Core.List.{List}
 use native.Mathlib.Omega.{arith}
 use lib.IntN.{ℤ}
 use lib.ListN.{length, getD}
-use Rattle.matching.specs.declared.Range.{Range}
 use Rattle.matching.specs.declared.Spans.{Spans}
-use Rattle.matching.specs.Definitions.Lists.{All}
 use Rattle.matching.specs.Definitions.Nodes.{Master, masterA, masterB, each, Node, Unique, Reordered}
 use Rattle.matching.specs.Definitions.Columns.{tabulate}
-use Rattle.matching.specs.Definitions.Sizes.{nodeRows, half, setRows}
-use Rattle.matching.specs.Definitions.Rows.{range, On, xAt, yAt, nodeIn, nodesOn, Represents}
+use Rattle.matching.specs.Definitions.Sizes.{half, setRows}
+use Rattle.matching.specs.Definitions.Rows.{range, On, nodeIn, nodesOn, Represents}
 use Rattle.matching.specs.Laws.Lists.{all-at}
-use Rattle.matching.specs.Laws.Columns.{tabulate-length, tabulate-get, tabulate-all, tabulate-cong, same-place}
+use Rattle.matching.specs.Laws.Columns.{tabulate-get, tabulate-all, tabulate-cong, same-place}
 use Rattle.matching.specs.Laws.Sets.{on-in, on-length}
 use Rattle.matching.specs.Theorems.RowOrder.{reordered-all, reordered-unique, reordered-back}
 use Rattle.tables.specs.Definitions.Tables.{nodesIn, Accepted, GoodNode, GoodNodes}
-use Rattle.tables.specs.Laws.Accepted.{nodes-good}
+use Rattle.tables.specs.Laws.Accepted.{room, nodes-good}
 use Rattle.load.specs.Load.{Decoded, Loaded}
 use Rattle.load.specs.Index.{Distinct, Named}
 use Rattle.load.specs.Laws.Decode.{same-node}
 
 -- One table below half and one from there on: the second leaves the rows of the first as they are.
-pub loaded : {a b : List ℕ} {n m : ℕ} {ns : List ℕ} {at : List (List ℤ)} {cs ns' : List ℕ} {at' : List (List ℤ)} {cs' ns'' : List ℕ} {at'' : List (List ℤ)} {cs'' : List ℕ}
+pub loaded : {a b : List ℕ} {n m : ℕ} {ns : List ℕ} {at : List (List ℤ)} {cs ns' : List ℕ} {at' : List (List ℤ)} {cs' : List ℕ}
+    {ns'' : List ℕ} {at'' : List (List ℤ)} {cs'' : List ℕ}
     → Decoded a 0 n ns at cs ns' at' cs' → Decoded b half m ns' at' cs' ns'' at'' cs''
     → Loaded a b ns'' at'' cs'' (record { a = record { from = 0; to = n }; b = record { from = half; to = half + m } })
 loaded {a} {b} {n} {m} {ns' = ns'} {at' = at'} {cs' = cs'} {ns'' = ns''} {at'' = at''} {cs'' = cs''} p q = record {
@@ -69,36 +68,32 @@ rows-unique : (ns : List ℕ) (at : List (List ℤ)) (cs : List ℕ) (k n : ℕ)
 unfolding tabulate
 rows-unique ns at cs k zero h = tt
 rows-unique ns at cs k (suc n) h = (
-  tabulate-all (λ w. getD ns k 0 ≡ w .number → ⊥) (nodeIn ns at cs) (suc k) n (λ i l g e. omega (arith, h k i (omega arith) (omega arith) (omega arith) (omega arith) e)),
+  tabulate-all (λ w. getD ns k 0 ≡ w .number → ⊥) (nodeIn ns at cs) (suc k) n
+      (λ i l g e. omega (arith, h k i (omega arith) (omega arith) (omega arith) (omega arith) e)),
   rows-unique ns at cs (suc k) n (λ i j a b c d e. h i j (omega arith) (omega arith) (omega arith) (omega arith) e),
 )
 
 module _ {a b ns : List ℕ} {at : List (List ℤ)} {cs : List ℕ} {s : Spans} (l : Loaded a b ns at cs s) where
-  order : (m : Master) → range s m .from ≤ range s m .to
-  order masterA = l .spans .order-a
-  order masterB = l .spans .order-b
-
   -- A master's range has the numbers of its table.
   pub loaded-named : (m : Master) → Named (each a b m) (range s m) ns
   loaded-named m = record {
     room = l .columns .numbers;
-    order = order m;
-    most = most m;
+    order = omega (arith, l .count m);
+    most = omega (arith, l .count m, room (each a b m));
     end = end m;
     count = l .count m;
     unique = λ d. reordered-unique (reordered-back (l .nodes m)) (unique d);
   }
     where
-      most : (m : Master) → range s m .to ≤ range s m .from + nodeRows
-      most masterA = l .spans .most-a
-      most masterB = l .spans .most-b
-
       end : (m : Master) → range s m .to ≤ setRows
       end masterA = omega (arith, l .spans .below)
       end masterB = l .spans .end
 
       unique : Distinct (range s m) ns → Unique (nodesOn s ns at cs m)
-      unique d = unfold nodesOn in rows-unique ns at cs (range s m .from) (range s m .to - range s m .from) (λ i j a b c e. d i j a (omega (arith, order m)) c (omega (arith, order m)))
+      unique d =
+          unfold nodesOn in
+          rows-unique ns at cs (range s m .from) (range s m .to - range s m .from)
+          (λ i j a b c e. d i j a (omega (arith, l .count m)) c (omega (arith, l .count m)))
 
   -- Accepted tables are represented by their rows.
   pub loaded-represents : Accepted a → Accepted b → Represents (nodesIn a) (nodesIn b) ns at cs s
@@ -126,13 +121,14 @@ module _ {a b ns : List ℕ} {at : List (List ℤ)} {cs : List ℕ} {s : Spans} 
       node m i d h =
           unfold nodesOn in
           let z : range s m .from + (i - range s m .from) ≡ i = omega (arith, h .0) in
-          tabulate-get (nodeIn ns at cs) (range s m .from) (range s m .to - range s m .from) (i - range s m .from) d (omega (arith, h .0, h .1)) ∙ ap (nodeIn ns at cs) z
+          tabulate-get (nodeIn ns at cs) (range s m .from) (range s m .to - range s m .from) (i - range s m .from) d (omega (arith, h .0, h .1))
+          ∙ ap (nodeIn ns at cs) z
 
       distinct : (m : Master) (i k : ℕ) → On s m i → On s m k → getD ns i 0 ≡ getD ns k 0 → i ≡ k
       distinct m i k h g e =
           let d = nodeIn ns at cs 0 in
           let j : i - range s m .from ≡ k - range s m .from =
-              same-place (nodesOn s ns at cs m) (i - range s m .from) (k - range s m .from) d (reordered-unique (l .nodes m) (good m .unique))
-              (omega (arith, on-length s ns at cs m, h .0, h .1)) (omega (arith, on-length s ns at cs m, g .0, g .1))
-              (ap (λ (v : Node). v .number) (node m i d h) ∙ e ∙ sym (ap (λ (v : Node). v .number) (node m k d g))) in
+          same-place (nodesOn s ns at cs m) (i - range s m .from) (k - range s m .from) d (reordered-unique (l .nodes m) (good m .unique))
+          (omega (arith, on-length s ns at cs m, h .0, h .1)) (omega (arith, on-length s ns at cs m, g .0, g .1))
+          (ap (λ (v : Node). v .number) (node m i d h) ∙ e ∙ sym (ap (λ (v : Node). v .number) (node m k d g))) in
           omega (arith, h .0, g .0)

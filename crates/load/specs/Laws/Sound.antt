@@ -24,7 +24,9 @@ record RowAt (t : List ℕ) (A : List Node) (k j : ℕ) (d : Node) : Type 0 wher
   pub numbered : rowNumber t (k + j) ≡ 0 → ⊥
 
 first-row : (t : List ℕ) (A : List Node) (k : ℕ) (d : Node) → (rowNumber t k ≡ 0 → ⊥) → RowAt t (nodeFrom t (nodeSize * k) ∷ A) k 0 d
-first-row t A k d e = let z : k ≡ k + 0 = omega arith in record { node = ap (λ (i : ℕ). nodeFrom t (nodeSize * i)) z; numbered = λ n. e (ap (rowNumber t) z ∙ n) }
+first-row t A k d e =
+    let z : k ≡ k + 0 = omega arith in
+    record { node = ap (λ (i : ℕ). nodeFrom t (nodeSize * i)) z; numbered = λ n. e (ap (rowNumber t) z ∙ n) }
 
 later-row : (t : List ℕ) (v : Node) (A : List Node) (k i : ℕ) (d : Node) → RowAt t A (suc k) i d → RowAt t (v ∷ A) k (suc i) d
 later-row t v A k i d r =
@@ -36,7 +38,8 @@ unfolding nodesFrom
 rows-at t d zero k j h = absurd (omega arith)
 rows-at t d (suc n) k j h = go (ℕ-discrete (rowNumber t k) 0) (rows-at t d n (suc k))
   where
-    go : Dec (rowNumber t k ≡ 0) → ((i : ℕ) → i < length (nodesFrom t (suc k) n) → RowAt t (nodesFrom t (suc k) n) (suc k) i d) → RowAt t (nodesFrom t k (suc n)) k j d
+    go : Dec (rowNumber t k ≡ 0) → ((i : ℕ) → i < length (nodesFrom t (suc k) n) → RowAt t (nodesFrom t (suc k) n) (suc k) i d)
+        → RowAt t (nodesFrom t k (suc n)) k j d
     go (yes e) ih = absurd (omega (arith, rw (eq-eqb (rowNumber t k) 0 e) at h))
     go (no e) ih = rw (ne-eqb (rowNumber t k) 0 e) (at j (rw (ne-eqb (rowNumber t k) 0 e) at h))
       where

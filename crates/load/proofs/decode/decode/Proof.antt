@@ -24,7 +24,9 @@ loop-again c =
     let call = c .before .before .before .before .before in
     let turn = call .before .before .before .before in
     let test = turn .before .before in
-    progress-more (test .before .loop .inv) (test .before .before .before .before .before .pre .1) (test .loop-test .taken) (λ e. turn .if1 .left (turn .before .row-number .ensures ∙ e)) (call .store .ensures)
+    let start = test .before .before .before .before .before in
+    progress-more (test .before .loop .inv) (start .pre .1) (test .loop-test .taken) (λ e. turn .if1 .left (turn .before .row-number .ensures ∙ e))
+    (call .store .ensures)
 
 returns-2 : tie.Need-returns-2 Inv-loop μ-loop
 returns-2 c = progress-full (c .before .loop .inv) (c .loop-test .left)

@@ -1,6 +1,6 @@
 -- `decode::store` meets its contract: each field is what its callee says. Assumes nothing.
 use mathlib.Core.Path.{_∙_, ap, ap₂}
-use mathlib.Core.List.{List, [], _∷_}
+use mathlib.Core.List.{[], _∷_}
 use lib.IntN.{ℤ}
 use lib.ListN.{set}
 use borrow.Author.Needs.{needs}

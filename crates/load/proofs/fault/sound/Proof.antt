@@ -18,13 +18,12 @@ returns-3 c =
     let chained = c .before .before .before .before in
     let zeros = chained .before .before .before in
     let good = zeros .before .before in
-    let named = good .before .before .before .before .before .before .before .pre .1 in
-    (
+    let named = good .before .before .before .before .before .before .before .pre .1 in (
       λ h.
-        faultless _
-        (λ k l. good .before .rows-good .ensures (not-false _ (good .if1 .left)) k (omega (arith, named .count)))
-        (λ k l m. zeros .before .rows-zero .ensures (not-false _ (zeros .if2 .left)) k (omega (arith, named .count)) m)
-        (named .unique (chained .index .ensures .0 h)),
+          faultless _
+          (λ k l. good .before .rows-good .ensures (not-false _ (good .if1 .left)) k (omega (arith, named .count)))
+          (λ k l m. zeros .before .rows-zero .ensures (not-false _ (zeros .if2 .left)) k (omega (arith, named .count)) m)
+          (named .unique (chained .index .ensures .0 h)),
       chained .index .ensures .1,
     )
 
