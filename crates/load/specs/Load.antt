@@ -1,20 +1,36 @@
 -- Tables in the set.
-use Prim.Native.Nat.{ℕ, _+_, _-_, _≤_, _<_}
+use Prim.Native.Nat.{ℕ, _+_, _≤_, _<_}
 use mathlib.Core.Path.{_≡_}
-use mathlib.Core.List.{List, []}
+use mathlib.Core.List.{List, [], _∷_}
 use lib.IntN.{ℤ}
-use lib.ListN.{length}
+use lib.ListN.{length, set}
 use Rattle.matching.specs.declared.Spans.{Spans}
-use Rattle.matching.specs.Definitions.Nodes.{Master, each, Reordered}
-use Rattle.matching.specs.Definitions.Sizes.{setRows}
-use Rattle.matching.specs.Definitions.Rows.{range, Spanned, nodesOn}
+use Rattle.matching.specs.Definitions.Nodes.{Master, each, Node, Reordered}
+use Rattle.matching.specs.Definitions.Columns.{tabulate}
+use Rattle.matching.specs.Definitions.Sizes.{nodeRows, setRows}
+use Rattle.matching.specs.Definitions.Rows.{range, Spanned, nodeIn, nodesOn}
 use Rattle.tables.specs.Definitions.Tables.{nodesIn}
+use Rattle.packing.specs.Packed.{Same}
 
 -- The three columns of a set have a place for each row.
 pub record Columns (ns : List ℕ) (at : List (List ℤ)) (cs : List ℕ) : Type 0 where
   pub numbers : length ns ≡ setRows
   pub positions : length at ≡ setRows
   pub capacities : length cs ≡ setRows
+
+-- The node v is stored in row i, and the other rows are as they were.
+pub record Stored (v : Node) (i : ℕ) (ns : List ℕ) (at : List (List ℤ)) (cs ns' : List ℕ) (at' : List (List ℤ)) (cs' : List ℕ) : Type 0 where
+  pub number : ns' ≡ set ns i (v .number)
+  pub position : at' ≡ set at i (v .x ∷ v .y ∷ [])
+  pub capacity : cs' ≡ set cs i (v .capacity)
+
+-- The n rows from `from` on are the nodes of a table in some order; the other rows are as they were.
+pub record Decoded (t : List ℕ) (from n : ℕ) (ns : List ℕ) (at : List (List ℤ)) (cs ns' : List ℕ) (at' : List (List ℤ)) (cs' : List ℕ) : Type 0 where
+  pub columns : Columns ns' at' cs'
+  pub most : n ≤ nodeRows
+  pub count : n ≡ length (nodesIn t)
+  pub nodes : Reordered (nodesIn t) (tabulate (nodeIn ns' at' cs') from n)
+  pub apart : (k : ℕ) → (from ≤ k → k < from + n → ⊥) → Same k ns at cs ns' at' cs'
 
 -- Both tables are in the set, each master's nodes in some order. Nothing is said of what the tables hold.
 pub record Loaded (a b ns : List ℕ) (at : List (List ℤ)) (cs : List ℕ) (s : Spans) : Type 0 where

@@ -20,6 +20,13 @@ reordered-length (swap v w) = refl
 reordered-length (skip v r) = ap suc (reordered-length r)
 reordered-length (then r s) = reordered-length r ∙ reordered-length s
 
+-- What is reordered can be put back.
+pub reordered-back : {A C : List Node} → Reordered A C → Reordered C A
+reordered-back same = same
+reordered-back (swap v w) = swap w v
+reordered-back (skip v r) = skip v (reordered-back r)
+reordered-back (then r s) = then (reordered-back s) (reordered-back r)
+
 -- A property of every node is one in any order.
 pub reordered-all : (P : Node → Type 0) {A C : List Node} → Reordered A C → All P A → All P C
 reordered-all P same h = h

@@ -1,0 +1,11 @@
+-- `index::entry` meets its contract: an entry fits. Assumes nothing.
+use native.Mathlib.Omega.{arith}
+use borrow.Author.Needs.{needs}
+use Rattle.load.proofs.index.entry.Statement.{statement}
+use Rattle.load.proofs.index.entry.Tie as tie
+
+cast-result : tie.Need-cast-result
+cast-result c = omega (arith, c .shared-slice-known .given (c .before .args .k))
+
+pub entry-spec : {M : Type 1} → statement M
+entry-spec = tie.close (tie.spec (λ c. search needs) (λ c. search needs) cast-result (λ c. search needs))

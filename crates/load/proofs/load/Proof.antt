@@ -1,0 +1,15 @@
+-- `load::load` meets its contract: the second table leaves the rows of the first as they are. Assumes nothing.
+use borrow.Author.Needs.{needs}
+use Rattle.load.specs.Laws.Loaded.{loaded}
+use Rattle.load.proofs.load.Statement.{statement}
+use Rattle.load.proofs.load.Tie as tie
+
+returns : tie.Need-returns
+returns c =
+    let second = c .before .before .before .before .before in
+    loaded (second .before .before .before .before .before .before .before .before .before .place .ensures) (second .place2 .ensures)
+
+pub load-spec : {M : Type 1} → statement M
+load-spec =
+    tie.close
+    (tie.spec (λ c κs. search needs) (λ c κs. search needs) (λ c. search needs) (λ c. search needs) (λ c. search needs) (λ c. search needs) returns)

@@ -1,0 +1,5 @@
+-- What follows from the contracts, for callers and for the proofs of this crate.
+pub mod Decode
+pub mod LookUp
+pub mod Sound
+pub mod Loaded

@@ -1,0 +1,134 @@
+-- Tables in the set: what their rows denote.
+use Prim.Native.Nat.{ℕ, zero, suc, _+_, _-_, _≤_, _<_}
+use mathlib.Core.Path.{_≡_, refl, sym, _∙_, ap, subst}
+use mathlib.Core.List.{List}
+use native.Mathlib.Omega.{arith}
+use lib.IntN.{ℤ}
+use lib.ListN.{length, getD}
+use Rattle.matching.specs.declared.Spans.{Spans}
+use Rattle.matching.specs.Definitions.Nodes.{Master, masterA, masterB, each, Node, Unique, Reordered}
+use Rattle.matching.specs.Definitions.Columns.{tabulate}
+use Rattle.matching.specs.Definitions.Sizes.{half, setRows}
+use Rattle.matching.specs.Definitions.Rows.{range, On, nodeIn, nodesOn, Represents}
+use Rattle.matching.specs.Laws.Lists.{all-at}
+use Rattle.matching.specs.Laws.Columns.{tabulate-get, tabulate-all, tabulate-cong, same-place}
+use Rattle.matching.specs.Laws.Sets.{on-in, on-length}
+use Rattle.matching.specs.Theorems.RowOrder.{reordered-all, reordered-unique, reordered-back}
+use Rattle.tables.specs.Definitions.Tables.{nodesIn, Accepted, GoodNode, GoodNodes}
+use Rattle.tables.specs.Laws.Accepted.{room, nodes-good}
+use Rattle.load.specs.Load.{Decoded, Loaded}
+use Rattle.load.specs.Index.{Distinct, Named}
+use Rattle.load.specs.Laws.Decode.{same-node}
+
+-- One table below half and one from there on: the second leaves the rows of the first as they are.
+pub loaded : {a b : List ℕ} {n m : ℕ} {ns : List ℕ} {at : List (List ℤ)} {cs ns' : List ℕ} {at' : List (List ℤ)} {cs' : List ℕ}
+    {ns'' : List ℕ} {at'' : List (List ℤ)} {cs'' : List ℕ}
+    → Decoded a 0 n ns at cs ns' at' cs' → Decoded b half m ns' at' cs' ns'' at'' cs''
+    → Loaded a b ns'' at'' cs'' (record { a = record { from = 0; to = n }; b = record { from = half; to = half + m } })
+loaded {a} {b} {n} {m} {ns' = ns'} {at' = at'} {cs' = cs'} {ns'' = ns''} {at'' = at''} {cs'' = cs''} p q = record {
+  columns = q .columns;
+  spans = record {
+    order-a = omega arith;
+    order-b = omega arith;
+    most-a = omega (arith, p .most);
+    most-b = omega (arith, q .most);
+    below = omega (arith, p .most);
+    above = omega arith;
+    end = omega (arith, q .most);
+    block-a = refl;
+    block-b = refl;
+  };
+  count = count;
+  nodes = nodes;
+}
+  where
+    s : Spans
+    s = record { a = record { from = 0; to = n }; b = record { from = half; to = half + m } }
+
+    count : (o : Master) → range s o .to ≡ range s o .from + length (nodesIn (each a b o))
+    count masterA = omega (arith, p .count)
+    count masterB = omega (arith, q .count)
+
+    size-a : n ≡ n - 0
+    size-a = omega arith
+
+    size-b : m ≡ half + m - half
+    size-b = omega arith
+
+    kept : tabulate (nodeIn ns' at' cs') 0 n ≡ tabulate (nodeIn ns'' at'' cs'') 0 n
+    kept = tabulate-cong (nodeIn ns' at' cs') (nodeIn ns'' at'' cs'') 0 n (λ k l h. sym (same-node (q .apart k (λ g z. omega (arith, p .most)))))
+
+    nodes : (o : Master) → Reordered (nodesIn (each a b o)) (nodesOn s ns'' at'' cs'' o)
+    nodes masterA = unfold nodesOn in subst (λ (A : List Node). Reordered (nodesIn a) A) (kept ∙ ap (tabulate (nodeIn ns'' at'' cs'') 0) size-a) (p .nodes)
+    nodes masterB = unfold nodesOn in subst (λ (A : List Node). Reordered (nodesIn b) A) (ap (tabulate (nodeIn ns'' at'' cs'') half) size-b) (q .nodes)
+
+-- Nodes in rows of distinct numbers.
+rows-unique : (ns : List ℕ) (at : List (List ℤ)) (cs : List ℕ) (k n : ℕ)
+    → ((i j : ℕ) → k ≤ i → i < k + n → k ≤ j → j < k + n → getD ns i 0 ≡ getD ns j 0 → i ≡ j) → Unique (tabulate (nodeIn ns at cs) k n)
+unfolding tabulate
+rows-unique ns at cs k zero h = tt
+rows-unique ns at cs k (suc n) h = (
+  tabulate-all (λ w. getD ns k 0 ≡ w .number → ⊥) (nodeIn ns at cs) (suc k) n
+      (λ i l g e. omega (arith, h k i (omega arith) (omega arith) (omega arith) (omega arith) e)),
+  rows-unique ns at cs (suc k) n (λ i j a b c d e. h i j (omega arith) (omega arith) (omega arith) (omega arith) e),
+)
+
+module _ {a b ns : List ℕ} {at : List (List ℤ)} {cs : List ℕ} {s : Spans} (l : Loaded a b ns at cs s) where
+  -- A master's range has the numbers of its table.
+  pub loaded-named : (m : Master) → Named (each a b m) (range s m) ns
+  loaded-named m = record {
+    room = l .columns .numbers;
+    order = omega (arith, l .count m);
+    most = omega (arith, l .count m, room (each a b m));
+    end = end m;
+    count = l .count m;
+    unique = λ d. reordered-unique (reordered-back (l .nodes m)) (unique d);
+  }
+    where
+      end : (m : Master) → range s m .to ≤ setRows
+      end masterA = omega (arith, l .spans .below)
+      end masterB = l .spans .end
+
+      unique : Distinct (range s m) ns → Unique (nodesOn s ns at cs m)
+      unique d =
+          unfold nodesOn in
+          rows-unique ns at cs (range s m .from) (range s m .to - range s m .from)
+          (λ i j a b c e. d i j a (omega (arith, l .count m)) c (omega (arith, l .count m)))
+
+  -- Accepted tables are represented by their rows.
+  pub loaded-represents : Accepted a → Accepted b → Represents (nodesIn a) (nodesIn b) ns at cs s
+  loaded-represents p q = record {
+    fit = record {
+      numbers = l .columns .numbers;
+      positions = l .columns .positions;
+      capacities = l .columns .capacities;
+      spans = l .spans;
+      inside = λ m k h. let g = all-at GoodNode (reordered-all GoodNode (l .nodes m) (good m .good)) (on-in s ns at cs m k h) in (g .across, g .up);
+      distinct = distinct;
+    };
+    nodes = nodes;
+  }
+    where
+      good : (m : Master) → GoodNodes (nodesIn (each a b m))
+      good masterA = nodes-good a p
+      good masterB = nodes-good b q
+
+      nodes : (m : Master) → Reordered (each (nodesIn a) (nodesIn b) m) (nodesOn s ns at cs m)
+      nodes masterA = l .nodes masterA
+      nodes masterB = l .nodes masterB
+
+      node : (m : Master) (i : ℕ) (d : Node) → On s m i → getD (nodesOn s ns at cs m) (i - range s m .from) d ≡ nodeIn ns at cs i
+      node m i d h =
+          unfold nodesOn in
+          let z : range s m .from + (i - range s m .from) ≡ i = omega (arith, h .0) in
+          tabulate-get (nodeIn ns at cs) (range s m .from) (range s m .to - range s m .from) (i - range s m .from) d (omega (arith, h .0, h .1))
+          ∙ ap (nodeIn ns at cs) z
+
+      distinct : (m : Master) (i k : ℕ) → On s m i → On s m k → getD ns i 0 ≡ getD ns k 0 → i ≡ k
+      distinct m i k h g e =
+          let d = nodeIn ns at cs 0 in
+          let j : i - range s m .from ≡ k - range s m .from =
+          same-place (nodesOn s ns at cs m) (i - range s m .from) (k - range s m .from) d (reordered-unique (l .nodes m) (good m .unique))
+          (omega (arith, on-length s ns at cs m, h .0, h .1)) (omega (arith, on-length s ns at cs m, g .0, g .1))
+          (ap (λ (v : Node). v .number) (node m i d h) ∙ e ∙ sym (ap (λ (v : Node). v .number) (node m k d g))) in
+          omega (arith, h .0, g .0)
