@@ -1,45 +1,36 @@
+-- `rows::find` meets its contract: no row passed has the number. Assumes nothing.
+use Prim.Native.Nat.{ℕ, _-_, _≤_, _<_}
+use mathlib.Core.Path.{_≡_}
+use native.Mathlib.Omega.{arith}
+use borrow.Author.Needs.{needs}
+use lib.ListN.{getD}
+use Rattle.matching.specs.Laws.Loops.{from-start, from-more}
 use Rattle.update.proofs.rows.find.Statement.{statement}
 use Rattle.update.proofs.rows.find.Tie as tie
-use Rattle.update.proofs.rows.find.Reads as reads
-use Rattle.update.proofs.rows.find.Lts as lts
 
 abbrev Inv-loop : tie.InvT-loop
-Inv-loop r ns z k₀ k = ?
+Inv-loop r ns z k₀ k = (r .from ≤ k) × (k ≤ r .to) × ((j : ℕ) → r .from ≤ j → j < k → getD ns j 0 ≡ z → ⊥)
 
 abbrev μ-loop : tie.MeasureT-loop
-μ-loop r ns z k₀ k = ?
+μ-loop r ns z k₀ k = r .to - k
 
--- src/rows.rt:25:5
 loop-holds : tie.Need-loop-holds Inv-loop μ-loop
-loop-holds c = ?
+loop-holds c = (omega arith, omega arith, from-start _ _)
 
--- src/rows.rt:26:12
-mul-if2 : tie.Need-mul-if2 Inv-loop μ-loop
-mul-if2 c = ?
-
--- src/rows.rt:26:12
-shared-slice-read-if2 : tie.Need-shared-slice-read-if2 Inv-loop μ-loop
-shared-slice-read-if2 c = ?
-
--- src/rows.rt:27:13
 returns : tie.Need-returns Inv-loop μ-loop
-returns c = ?
+returns c =
+    let l = c .before .before .before .before .loop in
+    record { low = l .inv .0; high = l .inv .1; is = λ h. c .if2 .taken; before = l .inv .2 }
 
--- src/rows.rt:29:9
-add-k : tie.Need-add-k Inv-loop μ-loop
-add-k c = ?
-
--- src/rows.rt:25:5
-loop-less : tie.Need-loop-less Inv-loop μ-loop
-loop-less c = ?
-
--- src/rows.rt:25:5
 loop-again : tie.Need-loop-again Inv-loop μ-loop
-loop-again c = ?
+loop-again c =
+    let l = c .before .before .before .before .loop in
+    (omega arith, omega arith, from-more _ _ _ (l .inv .2) (c .if2 .left))
 
--- src/rows.rt:20:1
 returns-2 : tie.Need-returns-2 Inv-loop μ-loop
-returns-2 c = ?
+returns-2 c =
+    let l = c .before .before .loop in
+    record { low = l .inv .0; high = l .inv .1; is = λ h. absurd (omega arith); before = l .inv .2 }
 
 pub find-spec : {M : Type 1} → statement M
 find-spec =
@@ -48,10 +39,10 @@ find-spec =
     Inv-loop
     μ-loop
     loop-holds
-    mul-if2
-    shared-slice-read-if2
+    (λ c. search needs)
+    (λ c. search needs)
     returns
-    add-k
-    loop-less
+    (λ c. search needs)
+    (λ c. search needs)
     loop-again
     returns-2)
