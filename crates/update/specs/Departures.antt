@@ -1,6 +1,6 @@
 -- A departure from nodes in another order, from nodes that have no such number, and from the nodes after an edit.
 use Prim.Native.Nat.{ℕ}
-use mathlib.Core.Path.{_≡_, refl, sym, _∙_, ap}
+use mathlib.Core.Path.{_≡_, refl, sym, _∙_, ap, subst}
 use mathlib.Core.Bool.{true}
 use mathlib.Core.List.{List, [], _∷_, _++_}
 use native.Mathlib.Decide.{ℕ-discrete}
@@ -8,7 +8,7 @@ use native.Mathlib.Omega.{arith}
 use borrow.Author.Tests.{eq-eqb, ne-eqb, not-false}
 use Rattle.matching.specs.Definitions.Nodes.{Node, Absent, Unique, has, Reordered, same, swap, skip, then}
 use Rattle.matching.specs.Definitions.Edits.{depart, amend, moved, resized}
-use Rattle.matching.specs.Laws.Split.{split, absent-of-unique}
+use Rattle.matching.specs.Laws.Split.{Split, split, absent-of-unique}
 use Rattle.matching.specs.Laws.Undo.{arrive-depart}
 use Rattle.matching.specs.Theorems.RowOrder.{reordered-unique}
 use Rattle.tables.specs.Definitions.Tables.{nodeFrom}
@@ -58,19 +58,20 @@ depart-amend f k z (v ∷ A) = go (ℕ-discrete (v .number) z) (depart-amend f k
 
 -- Once departed, a number is free.
 depart-twice : (z : ℕ) (A : List Node) → Unique A → has z A ≡ true → depart z (depart z A) ≡ depart z A
-depart-twice z A u h =
-    let s = split z A h in
-    depart-absent z (depart z A) (rw (s .departed, ← s .is-number) (absent-of-unique (s .A₁) (s .v) (s .A₂) (rw (s .is-list) at u)))
+depart-twice z A u h = go (split z A h)
+  where
+    go : Split z A → depart z (depart z A) ≡ depart z A
+    go s = depart-absent z (depart z A) (rw (s .departed) (subst (λ (n : ℕ). Absent n (s .A₁ ++ s .A₂)) (s .is-number) (absent-of-unique (s .A₁) (s .v) (s .A₂) (rw (s .is-list) at u))))
 
 -- An edit changes the node with its number alone.
 pub depart-edit : (e : List ℕ) (A : List Node) → Unique A → Passes e A → depart (numberOf e) (editNodes e A) ≡ depart (numberOf e) A
+unfolding editNodes editNode nodeFrom numberOf
 depart-edit e A u p = go (kind-cases e (p .least) (p .most))
   where
     known : (kindOf e ≡ 1 → ⊥) → has (numberOf e) A ≡ true
     known h = not-false (has (numberOf e) A) (rw (ne-eqb (kindOf e) 1 h) at (p .known))
 
     go : Kind e → depart (numberOf e) (editNodes e A) ≡ depart (numberOf e) A
-    unfolding editNodes editNode nodeFrom numberOf
     go (arrival k) =
         let free : Absent (numberOf e) A = has-none (numberOf e) A (rw k at (p .known)) in
         rw (k, depart-absent (numberOf e) A free) (arrive-depart (editNode e) A free)

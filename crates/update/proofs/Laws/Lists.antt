@@ -51,7 +51,7 @@ module _ (f : ℕ → Node) (first : ℕ) where
     depart-row n h e = ap (depart z) (around n i l h) ∙ depart-at z (before i) (f i) (after n i) free e
 
     -- Where row i is the end, there is nothing to depart.
-    depart-none : (n : ℕ) → i ≡ first + n → depart z (tabulate f first n) ≡ tabulate f first n
+    pub depart-none : (n : ℕ) → i ≡ first + n → depart z (tabulate f first n) ≡ tabulate f first n
     depart-none n e = let m : i - first ≡ n = omega arith in depart-absent z (tabulate f first n) (subst (λ (k : ℕ). Absent z (tabulate f first k)) m free)
 
 -- Nodes g of the same rows, but for row i.
@@ -66,3 +66,40 @@ module _ (f g : ℕ → Node) (first i : ℕ) (l : first ≤ i) (keeps : (j : �
   -- The node g i and nodes D, which are those of the other rows in some order.
   put-in : {A D : List Node} (n : ℕ) → i < first + n → Reordered A (g i ∷ D) → Reordered D (before f first i ++ after f first n i) → Reordered A (tabulate g first n)
   put-in n h r s = rw (written n h) (then r (then (skip (g i) s) (reversed (put-first (before f first i) (g i) (after f first n i)))))
+
+  -- Row i is written anew,
+  pub one-written : {A : List Node} (z n : ℕ) → i < first + n → ((j : ℕ) → first ≤ j → j < i → f j .number ≡ z → ⊥) → f i .number ≡ z
+      → Reordered A (g i ∷ depart z A) → Reordered (depart z A) (depart z (tabulate f first n)) → Reordered A (tabulate g first n)
+  one-written z n h none e r s = put-in n h r (rw (depart-row f first z i l none n h e) at s)
+
+  -- one more,
+  pub one-more : {A : List Node} (z n : ℕ) → i ≡ first + n → ((j : ℕ) → first ≤ j → j < i → f j .number ≡ z → ⊥)
+      → Reordered A (g i ∷ depart z A) → Reordered (depart z A) (depart z (tabulate f first n)) → Reordered A (tabulate g first (n + 1))
+  unfolding tabulate
+  one-more {A} z n e none r s =
+      let m : n ≡ i - first = omega arith in
+      let q : first + (n + 1) - suc i ≡ 0 = omega arith in
+      put-in (n + 1) (omega arith) r
+      (subst (λ (C : List Node). Reordered (depart z A) C)
+      (depart-none f first z i l none n e ∙ ap (tabulate f first) m ∙ sym (append-nil (before f first i)) ∙ ap (λ (k : ℕ). before f first i ++ tabulate f (suc i) k) (sym q))
+      s)
+
+  -- or filled by the last row, which goes.
+  last-filled : (n : ℕ) → i ≤ first + n → g i ≡ f (first + n) → Reordered (before f first i ++ after f first (n + 1) i) (tabulate g first n)
+  unfolding tabulate
+  last-filled n h e = go (ℕ-discrete i (first + n))
+    where
+      go : Dec (i ≡ first + n) → Reordered (before f first i ++ after f first (n + 1) i) (tabulate g first n)
+      go (yes d) =
+          let m : i - first ≡ n = omega arith in
+          let q : first + (n + 1) - suc i ≡ 0 = omega arith in
+          rw (m, q, append-nil (tabulate f first n), tabulate-cong g f first n (λ j a b. keeps j (λ k. omega arith))) same
+      go (no d) =
+          let q : first + (n + 1) - suc i ≡ suc (first + n - suc i) = omega arith in
+          let k : suc i + (first + n - suc i) ≡ first + n = omega arith in
+          rw (written n (omega arith), q, tabulate-snoc f (suc i) (first + n - suc i), k, e)
+          (behind (before f first i) (rw append-nil at (put-first (after f first n i) (f (first + n)) [])))
+
+  pub one-less : {A : List Node} (z n : ℕ) → i ≤ first + n → ((j : ℕ) → first ≤ j → j < i → f j .number ≡ z → ⊥) → f i .number ≡ z → g i ≡ f (first + n)
+      → depart z A ≡ A → Reordered (depart z A) (depart z (tabulate f first (n + 1))) → Reordered A (tabulate g first n)
+  one-less z n h none e d a s = then (rw (a, depart-row f first z i l none (n + 1) (omega arith) e) at s) (last-filled n h d)
