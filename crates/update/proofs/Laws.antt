@@ -2,4 +2,3 @@
 pub mod Lists
 pub mod Written
 pub mod Node
-pub mod Update
