@@ -1,18 +1,17 @@
 -- A departure from nodes in another order, from nodes that have no such number, and from the nodes after an edit.
 use Prim.Native.Nat.{ℕ}
 use mathlib.Core.Path.{_≡_, refl, sym, _∙_, ap, subst}
-use mathlib.Core.Bool.{true}
+use mathlib.Core.Bool.{Bool, true, false}
 use mathlib.Core.List.{List, [], _∷_, _++_}
 use native.Mathlib.Decide.{ℕ-discrete}
-use native.Mathlib.Omega.{arith}
-use borrow.Author.Tests.{eq-eqb, ne-eqb, not-false}
+use borrow.Author.Tests.{eq-eqb, ne-eqb}
 use Rattle.matching.specs.Definitions.Nodes.{Node, Absent, Unique, has, Reordered, same, swap, skip, then}
 use Rattle.matching.specs.Definitions.Edits.{depart, amend, moved, resized}
 use Rattle.matching.specs.Laws.Split.{Split, split, absent-of-unique}
 use Rattle.matching.specs.Laws.Undo.{arrive-depart}
 use Rattle.matching.specs.Theorems.RowOrder.{reordered-unique}
 use Rattle.tables.specs.Definitions.Tables.{nodeFrom}
-use Rattle.tables.specs.Definitions.Edits.{kindOf, numberOf, editNode, editNodes}
+use Rattle.tables.specs.Definitions.Edits.{numberOf, editNode, editNodes}
 use Rattle.tables.specs.Laws.Edits.{Passes, Kind, arrival, departure, move, capacity, kind-cases}
 use Rattle.tables.specs.Laws.Edited.{has-none}
 
@@ -56,25 +55,26 @@ depart-amend f k z (v ∷ A) = go (ℕ-discrete (v .number) z) (depart-amend f k
     go (yes e) r = rw (eq-eqb (v .number) z e, eq-eqb (f v .number) z (k v ∙ e))
     go (no e) r = rw (ne-eqb (v .number) z e, ne-eqb (v .number) z e) (ap (λ (C : List Node). v ∷ C) r)
 
--- Once departed, a number is free.
-depart-twice : (z : ℕ) (A : List Node) → Unique A → has z A ≡ true → depart z (depart z A) ≡ depart z A
-depart-twice z A u h = go (split z A h)
+-- A second departure finds no such number.
+depart-twice : (z : ℕ) (A : List Node) → Unique A → depart z (depart z A) ≡ depart z A
+depart-twice z A u = go (has z A) refl
   where
-    go : Split z A → depart z (depart z A) ≡ depart z A
-    go s = depart-absent z (depart z A) (rw (s .departed) (subst (λ (n : ℕ). Absent n (s .A₁ ++ s .A₂)) (s .is-number) (absent-of-unique (s .A₁) (s .v) (s .A₂) (rw (s .is-list) at u))))
+    free : Split z A → Absent z (depart z A)
+    free s = rw (s .departed) (subst (λ (n : ℕ). Absent n (s .A₁ ++ s .A₂)) (s .is-number) (absent-of-unique (s .A₁) (s .v) (s .A₂) (rw (s .is-list) at u)))
+
+    go : (t : Bool) → has z A ≡ t → depart z (depart z A) ≡ depart z A
+    go true h = depart-absent z (depart z A) (free (split z A h))
+    go false h = ap (depart z) (depart-absent z A (has-none z A h))
 
 -- An edit changes the node with its number alone.
 pub depart-edit : (e : List ℕ) (A : List Node) → Unique A → Passes e A → depart (numberOf e) (editNodes e A) ≡ depart (numberOf e) A
 unfolding editNodes editNode nodeFrom numberOf
 depart-edit e A u p = go (kind-cases e (p .least) (p .most))
   where
-    known : (kindOf e ≡ 1 → ⊥) → has (numberOf e) A ≡ true
-    known h = not-false (has (numberOf e) A) (rw (ne-eqb (kindOf e) 1 h) at (p .known))
-
     go : Kind e → depart (numberOf e) (editNodes e A) ≡ depart (numberOf e) A
     go (arrival k) =
         let free : Absent (numberOf e) A = has-none (numberOf e) A (rw k at (p .known)) in
         rw (k, depart-absent (numberOf e) A free) (arrive-depart (editNode e) A free)
-    go (departure k) = rw k (depart-twice (numberOf e) A u (known (omega arith)))
+    go (departure k) = rw k (depart-twice (numberOf e) A u)
     go (move k) = rw k (depart-amend (moved (editNode e .x) (editNode e .y)) (λ v. refl) (numberOf e) A)
     go (capacity k) = rw k (depart-amend (resized (editNode e .capacity)) (λ v. refl) (numberOf e) A)

@@ -16,7 +16,7 @@ use Rattle.tables.specs.Definitions.Tables.{nodesIn, GoodNodes}
 use Rattle.stability.specs.Barred.{Patched}
 
 -- The three columns of a set have a place for each row.
-pub record Sized (ns : List ℕ) (at : List (List ℤ)) (cs : List ℕ) : Type 0 where
+pub record Columns (ns : List ℕ) (at : List (List ℤ)) (cs : List ℕ) : Type 0 where
   pub numbers : length ns ≡ setRows
   pub positions : length at ≡ setRows
   pub capacities : length cs ≡ setRows
@@ -30,13 +30,13 @@ pub record Found (r : Range) (ns : List ℕ) (z k : ℕ) : Type 0 where
 
 -- Row i is written: number n, position p, capacity c.
 pub record Written (i n : ℕ) (p : List ℤ) (c : ℕ) (ns : List ℕ) (at : List (List ℤ)) (cs ns' : List ℕ) (at' : List (List ℤ)) (cs' : List ℕ) : Type 0 where
-  pub numbers : ns' ≡ set ns i n
-  pub positions : at' ≡ set at i p
-  pub capacities : cs' ≡ set cs i c
+  pub number : ns' ≡ set ns i n
+  pub position : at' ≡ set at i p
+  pub capacity : cs' ≡ set cs i c
 
 -- The node v is written into row i.
-abbrev pub Stored : ℕ → Node → List ℕ → List (List ℤ) → List ℕ → List ℕ → List (List ℤ) → List ℕ → Type 0
-Stored i v = Written i (v .number) (v .x ∷ v .y ∷ []) (v .capacity)
+abbrev pub Stored : Node → ℕ → List ℕ → List (List ℤ) → List ℕ → List ℕ → List (List ℤ) → List ℕ → Type 0
+Stored v i = Written i (v .number) (v .x ∷ v .y ∷ []) (v .capacity)
 
 -- The nodes of the rows from first to end.
 abbrev pub nodesBetween : ℕ → ℕ → List ℕ → List (List ℤ) → List ℕ → List Node
@@ -46,7 +46,7 @@ nodesBetween first end ns at cs = tabulate (nodeIn ns at cs) first (end - first)
 pub record Outdated (t : List ℕ) (z : ℕ) (r : Range) (ns : List ℕ) (at : List (List ℤ)) (cs L : List ℕ) : Type 0 where
   pub size : length t ≡ tableSize
   pub good : GoodNodes (nodesIn t)
-  pub sized : Sized ns at cs
+  pub columns : Columns ns at cs
   pub limits : length L ≡ setRows
   pub order : r .from ≤ r .to
   pub most : r .to ≤ r .from + nodeRows
@@ -62,7 +62,7 @@ pub record Same (k : ℕ) (ns : List ℕ) (at : List (List ℤ)) (cs L ns' : Lis
 
 -- The range's rows, which now end at e, are the nodes of the table; rows past its room are as they were. A row is fresh or was one of the range.
 pub record Current (t : List ℕ) (r : Range) (ns : List ℕ) (at : List (List ℤ)) (cs L : List ℕ) (e : ℕ) (ns' : List ℕ) (at' : List (List ℤ)) (cs' L' : List ℕ) : Type 0 where
-  pub sized : Sized ns' at' cs'
+  pub columns : Columns ns' at' cs'
   pub limits : length L' ≡ setRows
   pub order : r .from ≤ e
   pub most : e ≤ r .from + nodeRows

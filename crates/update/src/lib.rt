@@ -34,10 +34,7 @@ pub fn update(
         let to = update_node(a, z, s.a, 0, ns, at, cs, limits, places, n);
         let other = s.b;
         return Spans {
-            a: Range {
-                from: s.a.from,
-                to,
-            },
+            a: Range { from: s.a.from, to },
             b: other,
         };
     }
@@ -45,9 +42,6 @@ pub fn update(
     let other = s.a;
     Spans {
         a: other,
-        b: Range {
-            from: s.b.from,
-            to,
-        },
+        b: Range { from: s.b.from, to },
     }
 }

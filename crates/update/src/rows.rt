@@ -6,7 +6,7 @@ ghost use lib.ListN.{length, getD, set};
 ghost use Rattle.matching.specs.Definitions.Sizes.{nodeRows, setRows};
 ghost use Rattle.tables.specs.Definitions.Sizes.{nodeSize, tableSize};
 ghost use Rattle.tables.specs.Definitions.Tables.{nodeFrom};
-ghost use Rattle.update.specs.Rows.{Sized, Found, Written, Stored};
+ghost use Rattle.update.specs.Rows.{Columns, Found, Written, Stored};
 use matching::Range;
 use tables::faults::row_number;
 use tables::fields::position_at;
@@ -33,17 +33,28 @@ pub fn find(r: Range, ns: &[u32], z: u32) -> usize
 
 // Writes the node of the table's row k into row i.
 pub fn store(t: &[u8], k: usize, i: usize, ns: &mut [u32], at: &mut [[i16; 2]], cs: &mut [u32])
-    requires { ⌜ (length (now t) ≡ tableSize) × (k < nodeRows) × (i < setRows) × Sized (now ns) (now at) (now cs) ⌝ }
-    ensures { λ _. ⌜ Stored i (nodeFrom (now (t .entry)) (nodeSize * k)) (now (ns .entry)) (now (at .entry)) (now (cs .entry)) (now (ns .exit)) (now (at .exit)) (now (cs .exit)) ⌝ }
+    requires { ⌜ (length (now t) ≡ tableSize) × (k < nodeRows) × (i < setRows) × Columns (now ns) (now at) (now cs) ⌝ }
+    ensures { λ _. ⌜ Stored (nodeFrom (now (t .entry)) (nodeSize * k)) i
+        (now (ns .entry)) (now (at .entry)) (now (cs .entry)) (now (ns .exit)) (now (at .exit)) (now (cs .exit)) ⌝ }
 {
     ns[i] = row_number(t, k);
-    at[i] = [position_at(t, NODE * k + NODE_X), position_at(t, NODE * k + NODE_Y)];
+    at[i] = [
+        position_at(t, NODE * k + NODE_X),
+        position_at(t, NODE * k + NODE_Y),
+    ];
     cs[i] = two_at(t, NODE * k + NODE_CAPACITY);
 }
 
 // Copies row `last`, with its limit, into another.
-pub fn fill(row: usize, last: usize, ns: &mut [u32], at: &mut [[i16; 2]], cs: &mut [u32], limits: &mut [u64])
-    requires { ⌜ (row < setRows) × (last < setRows) × Sized (now ns) (now at) (now cs) × (length (now limits) ≡ setRows) ⌝ }
+pub fn fill(
+    row: usize,
+    last: usize,
+    ns: &mut [u32],
+    at: &mut [[i16; 2]],
+    cs: &mut [u32],
+    limits: &mut [u64],
+)
+    requires { ⌜ (row < setRows) × (last < setRows) × Columns (now ns) (now at) (now cs) × (length (now limits) ≡ setRows) ⌝ }
     ensures { λ _. ⌜ Written row (getD (now (ns .entry)) last 0) (getD (now (at .entry)) last []) (getD (now (cs .entry)) last 0)
         (now (ns .entry)) (now (at .entry)) (now (cs .entry)) (now (ns .exit)) (now (at .exit)) (now (cs .exit))
         × (now (limits .exit) ≡ set (now (limits .entry)) row (getD (now (limits .entry)) last 0)) ⌝ }

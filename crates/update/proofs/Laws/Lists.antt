@@ -60,8 +60,8 @@ module _ (f g : ℕ → Node) (first i : ℕ) (l : first ≤ i) (keeps : (j : �
   written n h =
       around g first n i l h
       ∙ ap₂ (λ (A C : List Node). A ++ (g i ∷ C))
-          (tabulate-cong g f first (i - first) (λ j a b. keeps j (λ e. omega arith)))
-          (tabulate-cong g f (suc i) (first + n - suc i) (λ j a b. keeps j (λ e. omega arith)))
+      (tabulate-cong g f first (i - first) (λ j a b. keeps j (λ e. omega arith)))
+      (tabulate-cong g f (suc i) (first + n - suc i) (λ j a b. keeps j (λ e. omega arith)))
 
   -- The node g i and nodes D, which are those of the other rows in some order.
   put-in : {A D : List Node} (n : ℕ) → i < first + n → Reordered A (g i ∷ D) → Reordered D (before f first i ++ after f first n i) → Reordered A (tabulate g first n)

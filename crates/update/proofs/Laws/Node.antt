@@ -26,10 +26,10 @@ use Rattle.tables.specs.Laws.Edited.{has-none}
 use Rattle.tables.specs.Laws.Find.{RowOf}
 use Rattle.tables.specs.Laws.Sound.{rows-at}
 use Rattle.stability.specs.Barred.{Patched, fresh, moved}
-use Rattle.update.specs.Rows.{nodesBetween, Sized, Found, Written, Stored, Outdated, Same, Current}
+use Rattle.update.specs.Rows.{nodesBetween, Columns, Found, Written, Stored, Outdated, Same, Current}
 use Rattle.update.specs.Departures.{depart-absent}
 use Rattle.update.proofs.Laws.Lists.{put-first, depart-none, one-written, one-more, one-less}
-use Rattle.update.proofs.Laws.Written.{at-written, written-sized, written-node, written-same, same-node, same-patched, on-range}
+use Rattle.update.proofs.Laws.Written.{at-written, written-columns, written-node, written-same, same-node, same-patched, on-range}
 
 -- The table's nodes are the node with the number z and the others;
 module _ {t : List ℕ} {z k : ℕ} (o : RowOf t z k) where
@@ -42,8 +42,8 @@ module _ {t : List ℕ} {z k : ℕ} (o : RowOf t z k) where
           let p : length (s .A₁) ≡ k = sym (o .is h ∙ s .is-place) in
           let l : k < length (nodesIn t) = omega (arith, p, ap length (s .is-list), length-append (s .A₁) (s .v ∷ s .A₂)) in
           let v : s .v ≡ nodeFrom t (nodeSize * k) =
-              sym (ap (λ (A : List Node). getD A k (s .v)) (s .is-list) ∙ getD-at (s .A₁) (s .v) (s .A₂) (s .v) k p)
-              ∙ rows-at t (s .v) nodeRows 0 k l .node ∙ ap (λ (j : ℕ). nodeFrom t (nodeSize * j)) (zero-add k) in
+          sym (ap (λ (A : List Node). getD A k (s .v)) (s .is-list) ∙ getD-at (s .A₁) (s .v) (s .A₂) (s .v) k p)
+          ∙ rows-at t (s .v) nodeRows 0 k l .node ∙ ap (λ (j : ℕ). nodeFrom t (nodeSize * j)) (zero-add k) in
           rw (s .departed, ← v) (subst (λ (A : List Node). Reordered A (s .v ∷ (s .A₁ ++ s .A₂))) (sym (s .is-list)) (put-first (s .A₁) (s .v) (s .A₂)))
 
   -- or it has none with that number.
@@ -76,7 +76,7 @@ module _ {t : List ℕ} {z : ℕ} {r : Range} {ns : List ℕ} {at : List (List �
 
   -- The table has the node.
   module _ {k : ℕ} {ns' : List ℕ} {at' : List (List ℤ)} {cs' L' : List ℕ} (q : RowOf t z k) (h : k < nodeRows)
-      (w : Stored row (nodeFrom t (nodeSize * k)) ns at cs ns' at' cs') (e : L' ≡ set L row 0) where
+      (w : Stored (nodeFrom t (nodeSize * k)) row ns at cs ns' at' cs') (e : L' ≡ set L row 0) where
     abbrev node' : ℕ → Node
     node' = nodeIn ns' at' cs'
 
@@ -90,12 +90,12 @@ module _ {t : List ℕ} {z : ℕ} {r : Range} {ns : List ℕ} {at : List (List �
     below = omega (arith, row-room q h, o .room)
 
     first : Reordered (nodesIn t) (node' row ∷ depart z (nodesIn t))
-    first = rw (written-node w (o .sized) below) (node-first q h)
+    first = rw (written-node w (o .columns) below) (node-first q h)
 
     current : (end : ℕ) → r .from ≤ end → end ≤ r .from + nodeRows → ((j : ℕ) → j < end → (j ≡ row → ⊥) → j < r .to)
         → Reordered (nodesIn t) (nodesBetween (r .from) end ns' at' cs') → Current t r ns at cs L end ns' at' cs' L'
     current end l m old nodes = record {
-      sized = written-sized w (o .sized);
+      columns = written-columns w (o .columns);
       limits = ap length e ∙ length-set L row 0 ∙ o .limits;
       order = l;
       most = m;
@@ -137,21 +137,21 @@ module _ {t : List ℕ} {z : ℕ} {r : Range} {ns : List ℕ} {at : List (List �
         let n : r .to - r .from ≡ last - r .from + 1 = omega (arith, f .low) in
         let b : r .from + (last - r .from) ≡ last = omega (arith, f .low) in
         record {
-          sized = written-sized w (o .sized);
+          columns = written-columns w (o .columns);
           limits = ap length e ∙ length-set L row (getD L last 0) ∙ o .limits;
           order = omega (arith, f .low);
           most = omega (arith, o .most);
           nodes =
               one-less node new (r .from) row (f .low) (λ j x. same-node (rest j x)) z (last - r .from) (omega (arith, f .low)) (f .before) (f .is l)
-              (written-node w (o .sized) within ∙ ap node (sym b)) (none-departs q h) (rw n at (o .edited));
+              (written-node w (o .columns) within ∙ ap node (sym b)) (none-departs q h) (rw n at (o .edited));
           others = λ j x. rest j (λ y. x (omega (arith, f .low)) (omega (arith, o .most)));
           patched = λ s p i j a c. patch s p i j a c (ℕ-discrete j row);
         }
       where
         patch : (s : Spans) (p : Master) → range s p ≡ r → (j : ℕ) → r .from ≤ j → j < last → Dec (j ≡ row) → Patched ns at s L ns' at' L' p j
         patch s p i j a c (yes x) = moved last (on-range s p i last (omega arith) (omega arith))
-            (rw x (sym (at-written ns row (getD ns last 0) 0 (w .numbers) (omega (arith, o .sized .numbers, within)))))
-            (rw x (sym (at-written at row (getD at last []) [] (w .positions) (omega (arith, o .sized .positions, within)))))
+            (rw x (sym (at-written ns row (getD ns last 0) 0 (w .number) (omega (arith, o .columns .numbers, within)))))
+            (rw x (sym (at-written at row (getD at last []) [] (w .position) (omega (arith, o .columns .positions, within)))))
             (rw x (sym (at-written L row (getD L last 0) 0 e (omega (arith, o .limits, within)))))
         patch s p i j a c (no x) = same-patched (rest j x) (on-range s p i j a (omega arith))
 
@@ -160,7 +160,7 @@ module _ {t : List ℕ} {z : ℕ} {r : Range} {ns : List ℕ} {at : List (List �
   node-missing q h l =
       let b : row ≡ r .to = omega (arith, f .high) in
       record {
-        sized = o .sized;
+        columns = o .columns;
         limits = o .limits;
         order = f .low;
         most = omega (arith, o .most);

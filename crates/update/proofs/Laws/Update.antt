@@ -105,7 +105,7 @@ module _ {a b e ns : List ℕ} {at : List (List ℤ)} {cs : List ℕ} {s : Spans
   outdated m is z n = record {
     size = sizes m;
     good = o .good m;
-    sized = record { numbers = o .fit .numbers; positions = o .fit .positions; capacities = o .fit .capacities };
+    columns = record { numbers = o .fit .numbers; positions = o .fit .positions; capacities = o .fit .capacities };
     limits = o .barred .room;
     order = both (λ p. range s p .from ≤ range s p .to) masterA (o .fit .spans .order-a) (o .fit .spans .order-b) m;
     most = both (λ p. range s p .to ≤ range s p .from + nodeRows) masterA (o .fit .spans .most-a) (o .fit .spans .most-b) m;
@@ -140,8 +140,11 @@ module _ {a b e ns : List ℕ} {at : List (List ℤ)} {cs : List ℕ} {s : Spans
 
     own-distinct : (i j : ℕ) → first ≤ i → i < k → first ≤ j → j < k → getD ns' i 0 ≡ getD ns' j 0 → i ≡ j
     own-distinct i j l h p q x =
-        omega (arith, same-place rows (i - first) (j - first) (node i) (reordered-unique (u .nodes) (o .good m .unique)) (within i l h) (within j p q)
-        (ap (λ (v : Node). v .number) (at-row i (node i) l h) ∙ x ∙ sym (ap (λ (v : Node). v .number) (at-row j (node i) p q))))
+        omega (
+          arith,
+          same-place rows (i - first) (j - first) (node i) (reordered-unique (u .nodes) (o .good m .unique)) (within i l h) (within j p q)
+              (ap (λ (v : Node). v .number) (at-row i (node i) l h) ∙ x ∙ sym (ap (λ (v : Node). v .number) (at-row j (node i) p q))),
+        )
 
     -- the other master's rows
     apart : (m : Master) (i : ℕ) → On s (other m) i → range s m .from ≤ i → i < range s m .from + nodeRows → ⊥
@@ -160,16 +163,16 @@ module _ {a b e ns : List ℕ} {at : List (List ℤ)} {cs : List ℕ} {s : Spans
     other-nodes =
         let r : Range = range s (other m) in
         let kept : nodesOn s ns at cs (other m) ≡ tabulate node (r .from) (r .to - r .from) =
-            tabulate-cong (nodeIn ns at cs) node (r .from) (r .to - r .from) (λ i l h. sym (same-node (unchanged i (l, omega arith)))) in
+        tabulate-cong (nodeIn ns at cs) node (r .from) (r .to - r .from) (λ i l h. sym (same-node (unchanged i (l, omega arith)))) in
         rw (tables (other m)) at
         (subst (λ (r : Range). Reordered (nodesIn (each a b (other m))) (tabulate node (r .from) (r .to - r .from))) (other-range s k m)
         (subst (λ (A : List Node). Reordered (nodesIn (each a b (other m))) A) kept (o .other (other m) (λ h. other-not m (h ∙ is)))))
 
     fit : Fit ns' at' cs' s'
     fit = record {
-      numbers = u .sized .numbers;
-      positions = u .sized .positions;
-      capacities = u .sized .capacities;
+      numbers = u .columns .numbers;
+      positions = u .columns .positions;
+      capacities = u .columns .capacities;
       spans = spanned m k (u .order) (u .most);
       inside = both (λ n. (i : ℕ) → On s' n i → Inside (xAt at' i) (yAt at' i)) m
           (λ i h. let g = on-own s k m i h in own-inside i (g .0) (g .1))
@@ -177,9 +180,9 @@ module _ {a b e ns : List ℕ} {at : List (List ℤ)} {cs : List ℕ} {s : Spans
       distinct = both (λ n. (i j : ℕ) → On s' n i → On s' n j → getD ns' i 0 ≡ getD ns' j 0 → i ≡ j) m
           (λ i j h g. let p = on-own s k m i h in let q = on-own s k m j g in own-distinct i j (p .0) (p .1) (q .0) (q .1))
           (λ i j h g x.
-              let p = on-other s k m i h in
-              let q = on-other s k m j g in
-              o .fit .distinct (other m) i j p q (unchanged i p .number ∙ x ∙ sym (unchanged j q .number)));
+          let p = on-other s k m i h in
+          let q = on-other s k m j g in
+          o .fit .distinct (other m) i j p q (unchanged i p .number ∙ x ∙ sym (unchanged j q .number)));
     }
 
     pub updated : {P : List (List ℕ)} → length P ≡ linkRows → Updated a b ns' at' cs' s' L' P

@@ -11,7 +11,7 @@ store-requires c κs =
     let q = c .before .before .before .before in
     let f = q .before in
     let o = f .before .before .before .before .before .before .pre .0 in
-    (o .size, c .before .before .before .if1 .taken, omega (arith, row-room o (f .find .ensures) (q .row-of .ensures) (c .before .before .before .if1 .taken), o .room), o .sized)
+    (o .size, c .before .before .before .if1 .taken, omega (arith, row-room o (f .find .ensures) (q .row-of .ensures) (c .before .before .before .if1 .taken), o .room), o .columns)
 
 slice-write-limits : tie.Need-slice-write-limits
 slice-write-limits c =

@@ -17,9 +17,9 @@ returns c =
     let c1 = c .before .before .before in
     let a = c1 .before .before .before .before .args in
     record {
-      numbers = ap (set (a .ns .now) (a .i)) (c1 .row-number .ensures);
-      positions = ap₂ (λ (p q : ℤ). set (a .at .now) (a .i) (p ∷ q ∷ [])) (back (x .result) (x .ok) ∙ x .ensures) (back (y .result) (y .ok) ∙ y .ensures);
-      capacities = ap (set (a .cs .now) (a .i)) (c .two-at .ensures .0);
+      number = ap (set (a .ns .now) (a .i)) (c1 .row-number .ensures);
+      position = ap₂ (λ (p q : ℤ). set (a .at .now) (a .i) (p ∷ q ∷ [])) (back (x .result) (x .ok) ∙ x .ensures) (back (y .result) (y .ok) ∙ y .ensures);
+      capacity = ap (set (a .cs .now) (a .i)) (c .two-at .ensures .0);
     }
 
 pub store-spec : {M : Type 1} → statement M
