@@ -1,5 +1,5 @@
 -- A set of rows beside tables of which one was edited.
-use Prim.Native.Nat.{ℕ, _≤_}
+use Prim.Native.Nat.{ℕ, _+_, _≤_}
 use mathlib.Core.Path.{_≡_}
 use mathlib.Core.Bool.{cond}
 use mathlib.Core.List.{List}
@@ -9,8 +9,8 @@ use lib.ListN.{length}
 use Rattle.matching.specs.declared.Spans.{Spans}
 use Rattle.matching.specs.Definitions.Nodes.{Master, masterA, masterB, each, Reordered}
 use Rattle.matching.specs.Definitions.Edits.{depart}
-use Rattle.matching.specs.Definitions.Sizes.{linkRows}
-use Rattle.matching.specs.Definitions.Rows.{nodesOn, Fit, Represents}
+use Rattle.matching.specs.Definitions.Sizes.{nodeRows, linkRows, half, setRows}
+use Rattle.matching.specs.Definitions.Rows.{range, nodesOn, Fit, Represents}
 use Rattle.tables.specs.Definitions.Sizes.{tableSize, editSize}
 use Rattle.tables.specs.Definitions.Tables.{nodesIn, GoodNodes}
 use Rattle.tables.specs.Definitions.Edits.{masterOf, numberOf}
@@ -26,6 +26,7 @@ pub record Edited (a b e ns : List ℕ) (at : List (List ℤ)) (cs : List ℕ) (
   pub size-b : length b ≡ tableSize
   pub size-e : length e ≡ editSize
   pub fit : Fit ns at cs s
+  pub room : (m : Master) → range s m .from + nodeRows ≤ each half setRows m
   pub good : (m : Master) → GoodNodes (nodesIn (each a b m))
   pub edited : Reordered (depart (numberOf e) (nodesIn (each a b (named e)))) (depart (numberOf e) (nodesOn s ns at cs (named e)))
   pub other : (m : Master) → (m ≡ named e → ⊥) → Reordered (nodesIn (each a b m)) (nodesOn s ns at cs m)

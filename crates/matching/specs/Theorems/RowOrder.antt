@@ -14,7 +14,7 @@ use Rattle.matching.specs.Definitions.Join.{Left, capacities, lesser, co
 use Rattle.matching.specs.Laws.Earliest.{consider-comm, better, earliest-append, earliest-swap}
 use Rattle.matching.specs.Laws.Steps.{steps-same}
 
-reordered-length : {A C : List Node} → Reordered A C → length A ≡ length C
+pub reordered-length : {A C : List Node} → Reordered A C → length A ≡ length C
 reordered-length same = refl
 reordered-length (swap v w) = refl
 reordered-length (skip v r) = ap suc (reordered-length r)

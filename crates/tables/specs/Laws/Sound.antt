@@ -52,7 +52,7 @@ module _ (t ns : List ℕ) (m : Numbered t ns)
   faultless = from-none (faulty t) nodeRows 0 (λ k h g. clean k (omega arith))
 
 -- The node at place j, and that its row has a number.
-record RowAt (t : List ℕ) (A : List Node) (k j : ℕ) (d : Node) : Type 0 where
+pub record RowAt (t : List ℕ) (A : List Node) (k j : ℕ) (d : Node) : Type 0 where
   pub node : getD A j d ≡ nodeFrom t (nodeSize * (k + j))
   pub numbered : rowNumber t (k + j) ≡ 0 → ⊥
 
@@ -64,7 +64,7 @@ later-row t v A k i d r =
     let z : suc k + i ≡ k + suc i = omega arith in
     record { node = r .node ∙ ap (λ (j : ℕ). nodeFrom t (nodeSize * j)) z; numbered = λ n. r .numbered (ap (rowNumber t) z ∙ n) }
 
-rows-at : (t : List ℕ) (d : Node) (n k j : ℕ) → j < length (nodesFrom t k n) → RowAt t (nodesFrom t k n) k j d
+pub rows-at : (t : List ℕ) (d : Node) (n k j : ℕ) → j < length (nodesFrom t k n) → RowAt t (nodesFrom t k n) k j d
 unfolding nodesFrom
 rows-at t d zero k j h = absurd (omega arith)
 rows-at t d (suc n) k j h = go (ℕ-discrete (rowNumber t k) 0) (rows-at t d n (suc k))

@@ -1,0 +1,89 @@
+-- `node::update_node` meets its contract: the four ways in which a node can be in the table and in the range. Assumes nothing.
+use mathlib.Core.Path.{refl, _∙_}
+use native.Mathlib.Omega.{arith}
+use borrow.Author.Needs.{needs}
+use Rattle.update.proofs.Laws.Node.{row-room, node-written, node-added, node-removed, node-missing}
+use Rattle.update.proofs.node.update_node.Statement.{statement}
+use Rattle.update.proofs.node.update_node.Tie as tie
+
+store-requires : tie.Need-store-requires
+store-requires c κs =
+    let q = c .before .before .before .before in
+    let f = q .before in
+    let o = f .before .before .before .before .before .before .pre .0 in
+    (o .size, c .before .before .before .if1 .taken, omega (arith, row-room o (f .find .ensures) (q .row-of .ensures) (c .before .before .before .if1 .taken), o .room), o .columns)
+
+slice-write-limits : tie.Need-slice-write-limits
+slice-write-limits c =
+    let q = c .before .before .before .before .before .before .before .before .before .before in
+    let f = q .before in
+    let o = f .before .before .before .before .before .before .pre .0 in
+    omega (arith, row-room o (f .find .ensures) (q .row-of .ensures) (c .before .before .before .before .before .before .before .before .before .if1 .taken), o .room, o .limits)
+
+returns : tie.Need-returns
+returns c =
+    let w = c .before .before .before .before .before .before .before in
+    let q = w .before .before .before .before .before in
+    let f = q .before in
+    let p = f .before .before .before .before .before .before .pre in
+    (node-written (p .0) (f .find .ensures) (q .row-of .ensures) (w .before .before .before .before .if1 .taken) (w .store .ensures) refl (c .if2 .taken), p .2)
+
+returns-2 : tie.Need-returns-2
+returns-2 c =
+    let w = c .before .before .before .before .before .before .before in
+    let q = w .before .before .before .before .before in
+    let f = q .before in
+    let p = f .before .before .before .before .before .before .pre in
+    (node-added (p .0) (f .find .ensures) (q .row-of .ensures) (w .before .before .before .before .if1 .taken) (w .store .ensures) refl (c .if2 .left), p .2)
+
+returns-3 : tie.Need-returns-3
+returns-3 c =
+    let w = c .before .before .before .before .before .before .before .before .before .before in
+    let n = w .before .before .before .before .before .before in
+    let q = n .before .before .before in
+    let f = q .before in
+    let p = f .before .before .before .before .before .before .pre in (
+      node-removed (p .0) (f .find .ensures) _ (q .row-of .ensures) (n .before .before .if1 .left) (n .if3 .taken) (omega arith) (w .fill .ensures .0) (w .fill .ensures .1),
+      c .before .redirect .ensures ∙ p .2,
+    )
+
+returns-4 : tie.Need-returns-4
+returns-4 c =
+    let q = c .before .before .before in
+    let f = q .before in
+    let p = f .before .before .before .before .before .before .pre in
+    (node-missing (p .0) (f .find .ensures) (q .row-of .ensures) (c .before .before .if1 .left) (c .if3 .left), p .2)
+
+pub update-node-spec : {M : Type 1} → statement M
+update-node-spec =
+    tie.close
+    (tie.spec
+    (λ c κs. search needs)
+    (λ c κs. search needs)
+    store-requires
+    (λ c. search needs)
+    slice-write-limits
+    (λ c. search needs)
+    (λ c. search needs)
+    (λ c. search needs)
+    (λ c. search needs)
+    returns
+    (λ c. search needs)
+    (λ c. search needs)
+    (λ c. search needs)
+    (λ c. search needs)
+    (λ c. search needs)
+    returns-2
+    (λ c. search needs)
+    (λ c κs. search needs)
+    (λ c. search needs)
+    (λ c. search needs)
+    (λ c κs. search needs)
+    (λ c. search needs)
+    (λ c. search needs)
+    (λ c. search needs)
+    (λ c. search needs)
+    (λ c. search needs)
+    returns-3
+    (λ c. search needs)
+    returns-4)

@@ -1,0 +1,71 @@
+-- What single rows of the set are before and after, and the rows of one master.
+use Prim.Native.Nat.{ℕ, _+_, _-_, _≤_, _<_}
+use mathlib.Core.Path.{_≡_}
+use mathlib.Core.List.{List, [], _∷_}
+use lib.IntN.{ℤ}
+use lib.ListN.{length, getD, set}
+use Rattle.matching.specs.declared.Range.{Range}
+use Rattle.matching.specs.declared.Spans.{Spans}
+use Rattle.matching.specs.Definitions.Nodes.{Master, Node, Reordered}
+use Rattle.matching.specs.Definitions.Edits.{depart}
+use Rattle.matching.specs.Definitions.Columns.{tabulate}
+use Rattle.matching.specs.Definitions.Rows.{range, nodeIn}
+use Rattle.matching.specs.Definitions.Sizes.{nodeRows, setRows}
+use Rattle.tables.specs.Definitions.Sizes.{tableSize}
+use Rattle.tables.specs.Definitions.Tables.{nodesIn, GoodNodes}
+use Rattle.stability.specs.Barred.{Patched}
+
+-- The three columns of a set have a place for each row.
+pub record Columns (ns : List ℕ) (at : List (List ℤ)) (cs : List ℕ) : Type 0 where
+  pub numbers : length ns ≡ setRows
+  pub positions : length at ≡ setRows
+  pub capacities : length cs ≡ setRows
+
+-- Row k is the first of the range with the number z, or its end where none has it.
+pub record Found (r : Range) (ns : List ℕ) (z k : ℕ) : Type 0 where
+  pub low : r .from ≤ k
+  pub high : k ≤ r .to
+  pub is : k < r .to → getD ns k 0 ≡ z
+  pub before : (j : ℕ) → r .from ≤ j → j < k → getD ns j 0 ≡ z → ⊥
+
+-- Row i is written: number n, position p, capacity c.
+pub record Written (i n : ℕ) (p : List ℤ) (c : ℕ) (ns : List ℕ) (at : List (List ℤ)) (cs ns' : List ℕ) (at' : List (List ℤ)) (cs' : List ℕ) : Type 0 where
+  pub number : ns' ≡ set ns i n
+  pub position : at' ≡ set at i p
+  pub capacity : cs' ≡ set cs i c
+
+-- The node v is written into row i.
+abbrev pub Stored : Node → ℕ → List ℕ → List (List ℤ) → List ℕ → List ℕ → List (List ℤ) → List ℕ → Type 0
+Stored v i = Written i (v .number) (v .x ∷ v .y ∷ []) (v .capacity)
+
+-- The nodes of the rows from first to end.
+abbrev pub nodesBetween : ℕ → ℕ → List ℕ → List (List ℤ) → List ℕ → List Node
+nodesBetween first end ns at cs = tabulate (nodeIn ns at cs) first (end - first)
+
+-- The range's rows are the nodes of the table t, but for the node with the number z. There is room for as many as a table can have.
+pub record Outdated (t : List ℕ) (z : ℕ) (r : Range) (ns : List ℕ) (at : List (List ℤ)) (cs L : List ℕ) : Type 0 where
+  pub size : length t ≡ tableSize
+  pub good : GoodNodes (nodesIn t)
+  pub columns : Columns ns at cs
+  pub limits : length L ≡ setRows
+  pub order : r .from ≤ r .to
+  pub most : r .to ≤ r .from + nodeRows
+  pub room : r .from + nodeRows ≤ setRows
+  pub edited : Reordered (depart z (nodesIn t)) (depart z (nodesBetween (r .from) (r .to) ns at cs))
+
+-- Row k is as it was.
+pub record Same (k : ℕ) (ns : List ℕ) (at : List (List ℤ)) (cs L ns' : List ℕ) (at' : List (List ℤ)) (cs' L' : List ℕ) : Type 0 where
+  pub number : getD ns k 0 ≡ getD ns' k 0
+  pub position : getD at k [] ≡ getD at' k []
+  pub capacity : getD cs k 0 ≡ getD cs' k 0
+  pub limit : getD L k 0 ≡ getD L' k 0
+
+-- The range's rows, which now end at e, are the nodes of the table; rows past its room are as they were. A row is fresh or was one of the range.
+pub record Current (t : List ℕ) (r : Range) (ns : List ℕ) (at : List (List ℤ)) (cs L : List ℕ) (e : ℕ) (ns' : List ℕ) (at' : List (List ℤ)) (cs' L' : List ℕ) : Type 0 where
+  pub columns : Columns ns' at' cs'
+  pub limits : length L' ≡ setRows
+  pub order : r .from ≤ e
+  pub most : e ≤ r .from + nodeRows
+  pub nodes : Reordered (nodesIn t) (nodesBetween (r .from) e ns' at' cs')
+  pub others : (k : ℕ) → (r .from ≤ k → k < r .from + nodeRows → ⊥) → Same k ns at cs L ns' at' cs' L'
+  pub patched : (s : Spans) (m : Master) → range s m ≡ r → (k : ℕ) → r .from ≤ k → k < e → Patched ns at s L ns' at' L' m k
