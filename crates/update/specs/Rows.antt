@@ -61,7 +61,8 @@ pub record Same (k : ℕ) (ns : List ℕ) (at : List (List ℤ)) (cs L ns' : Lis
   pub limit : getD L k 0 ≡ getD L' k 0
 
 -- The range's rows, which now end at e, are the nodes of the table; rows past its room are as they were. A row is fresh or was one of the range.
-pub record Current (t : List ℕ) (r : Range) (ns : List ℕ) (at : List (List ℤ)) (cs L : List ℕ) (e : ℕ) (ns' : List ℕ) (at' : List (List ℤ)) (cs' L' : List ℕ) : Type 0 where
+pub record Current (t : List ℕ) (r : Range) (ns : List ℕ) (at : List (List ℤ)) (cs L : List ℕ) (e : ℕ)
+    (ns' : List ℕ) (at' : List (List ℤ)) (cs' L' : List ℕ) : Type 0 where
   pub columns : Columns ns' at' cs'
   pub limits : length L' ≡ setRows
   pub order : r .from ≤ e

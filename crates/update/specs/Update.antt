@@ -21,6 +21,7 @@ abbrev pub named : List ℕ → Master
 named e = cond (eqb (masterOf e) 0) masterA masterB
 
 -- The edited master's nodes differ from its rows in the edited node alone; the other's are its rows. Limits L bar every pair.
+-- Each master has room for as many rows as a table can have.
 pub record Edited (a b e ns : List ℕ) (at : List (List ℤ)) (cs : List ℕ) (s : Spans) (L : List ℕ) : Type 0 where
   pub size-a : length a ≡ tableSize
   pub size-b : length b ≡ tableSize

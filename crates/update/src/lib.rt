@@ -27,7 +27,8 @@ pub fn update(
     n: usize,
 ) -> Spans
     requires { ⌜ Edited (now a) (now b) (now edit) (now ns) (now at) (now cs) s (now limits) × (length (now places) ≡ linkRows) × (n ≤ linkRows) ⌝ }
-    ensures { λ r. ⌜ Updated (now (a .entry)) (now (b .entry)) (now (ns .exit)) (now (at .exit)) (now (cs .exit)) r (now (limits .exit)) (now (places .exit)) ⌝ }
+    ensures { λ r. ⌜ Updated (now (a .entry)) (now (b .entry)) (now (ns .exit)) (now (at .exit)) (now (cs .exit)) r
+        (now (limits .exit)) (now (places .exit)) ⌝ }
 {
     let z = number_of(edit);
     if master_of(edit) == 0 {

@@ -1,6 +1,6 @@
 -- Nodes of rows in a list, where one row is written, added, or filled by the last. Assumes nothing.
 use Prim.Native.Nat.{ℕ, suc, _+_, _-_, _≤_, _<_}
-use mathlib.Core.Path.{_≡_, refl, sym, _∙_, ap, ap₂, subst}
+use mathlib.Core.Path.{_≡_, sym, _∙_, ap, ap₂, subst}
 use mathlib.Core.List.{List, [], _∷_, _++_, append-nil}
 use native.Mathlib.Decide.{ℕ-discrete}
 use native.Mathlib.Omega.{arith}
@@ -11,7 +11,7 @@ use Rattle.matching.specs.Laws.Columns.{tabulate-all, tabulate-cong, tabulate-s
 use Rattle.update.specs.Departures.{depart-absent, depart-at}
 
 -- The other way round, behind some nodes, and with one of them put first.
-pub reversed : {A C : List Node} → Reordered A C → Reordered C A
+reversed : {A C : List Node} → Reordered A C → Reordered C A
 reversed same = same
 reversed (swap v w) = swap w v
 reversed (skip v r) = skip v (reversed r)
@@ -64,7 +64,8 @@ module _ (f g : ℕ → Node) (first i : ℕ) (l : first ≤ i) (keeps : (j : �
       (tabulate-cong g f (suc i) (first + n - suc i) (λ j a b. keeps j (λ e. omega arith)))
 
   -- The node g i and nodes D, which are those of the other rows in some order.
-  put-in : {A D : List Node} (n : ℕ) → i < first + n → Reordered A (g i ∷ D) → Reordered D (before f first i ++ after f first n i) → Reordered A (tabulate g first n)
+  put-in : {A D : List Node} (n : ℕ) → i < first + n → Reordered A (g i ∷ D) → Reordered D (before f first i ++ after f first n i)
+      → Reordered A (tabulate g first n)
   put-in n h r s = rw (written n h) (then r (then (skip (g i) s) (reversed (put-first (before f first i) (g i) (after f first n i)))))
 
   -- Row i is written anew,
@@ -81,7 +82,10 @@ module _ (f g : ℕ → Node) (first i : ℕ) (l : first ≤ i) (keeps : (j : �
       let q : first + (n + 1) - suc i ≡ 0 = omega arith in
       put-in (n + 1) (omega arith) r
       (subst (λ (C : List Node). Reordered (depart z A) C)
-      (depart-none f first z i l none n e ∙ ap (tabulate f first) m ∙ sym (append-nil (before f first i)) ∙ ap (λ (k : ℕ). before f first i ++ tabulate f (suc i) k) (sym q))
+      (depart-none f first z i l none n e
+      ∙ ap (tabulate f first) m
+      ∙ sym (append-nil (before f first i))
+      ∙ ap (λ (k : ℕ). before f first i ++ tabulate f (suc i) k) (sym q))
       s)
 
   -- or filled by the last row, which goes.

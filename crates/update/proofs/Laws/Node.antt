@@ -1,7 +1,6 @@
 -- The rows of a master after one of its nodes was written, added or taken out. Assumes nothing.
-use Prim.Native.Nat.{ℕ, suc, _+_, _-_, _*_, _≤_, _<_}
+use Prim.Native.Nat.{ℕ, _+_, _-_, _*_, _≤_, _<_}
 use mathlib.Core.Path.{_≡_, refl, sym, _∙_, ap, subst}
-use mathlib.Core.Bool.{true, false}
 use mathlib.Core.List.{List, [], _∷_, _++_}
 use native.Mathlib.Decide.{ℕ-discrete, decLt}
 use native.Mathlib.Nat.{zero-add}
@@ -26,7 +25,7 @@ use Rattle.tables.specs.Laws.Edited.{has-none}
 use Rattle.tables.specs.Laws.Find.{RowOf}
 use Rattle.tables.specs.Laws.Sound.{rows-at}
 use Rattle.stability.specs.Barred.{Patched, fresh, moved}
-use Rattle.update.specs.Rows.{nodesBetween, Columns, Found, Written, Stored, Outdated, Same, Current}
+use Rattle.update.specs.Rows.{nodesBetween, Found, Written, Stored, Outdated, Same, Current}
 use Rattle.update.specs.Departures.{depart-absent}
 use Rattle.update.proofs.Laws.Lists.{put-first, depart-none, one-written, one-more, one-less}
 use Rattle.update.proofs.Laws.Written.{at-written, written-columns, written-node, written-same, same-node, same-patched, on-range}
@@ -50,7 +49,8 @@ module _ {t : List ℕ} {z k : ℕ} (o : RowOf t z k) where
   pub none-departs : nodeRows ≤ k → depart z (nodesIn t) ≡ nodesIn t
   none-departs h = depart-absent z (nodesIn t) (has-none z (nodesIn t) (o .known ∙ le-ltb k nodeRows h))
 
-module _ {t : List ℕ} {z : ℕ} {r : Range} {ns : List ℕ} {at : List (List ℤ)} {cs L : List ℕ} (o : Outdated t z r ns at cs L) {row : ℕ} (f : Found r ns z row) where
+module _ {t : List ℕ} {z : ℕ} {r : Range} {ns : List ℕ} {at : List (List ℤ)} {cs L : List ℕ} (o : Outdated t z r ns at cs L)
+    {row : ℕ} (f : Found r ns z row) where
   abbrev size : ℕ
   size = r .to - r .from
 
@@ -121,7 +121,8 @@ module _ {t : List ℕ} {z : ℕ} {r : Range} {ns : List ℕ} {at : List (List �
         (one-more node node' (r .from) row (f .low) keeps z size (omega (arith, o .order, f .high)) (f .before) first (o .edited)))
 
   -- The table has no such node: the last row fills its row,
-  module _ {k : ℕ} (last : ℕ) {ns' : List ℕ} {at' : List (List ℤ)} {cs' L' : List ℕ} (q : RowOf t z k) (h : nodeRows ≤ k) (l : row < r .to) (d : r .to ≡ last + 1)
+  module _ {k : ℕ} (last : ℕ) {ns' : List ℕ} {at' : List (List ℤ)} {cs' L' : List ℕ}
+      (q : RowOf t z k) (h : nodeRows ≤ k) (l : row < r .to) (d : r .to ≡ last + 1)
       (w : Written row (getD ns last 0) (getD at last []) (getD cs last 0) ns at cs ns' at' cs') (e : L' ≡ set L row (getD L last 0)) where
     abbrev new : ℕ → Node
     new = nodeIn ns' at' cs'

@@ -8,11 +8,9 @@ use lib.IntN.{ℤ}
 use lib.ListN.{length, getD}
 use Rattle.matching.specs.declared.Range.{Range}
 use Rattle.matching.specs.declared.Spans.{Spans}
-use Rattle.matching.specs.Definitions.Lists.{All}
-use Rattle.matching.specs.Definitions.Nodes.{Master, masterA, masterB, each, Node, Unique, Reordered}
-use Rattle.matching.specs.Definitions.Edits.{depart}
+use Rattle.matching.specs.Definitions.Nodes.{Master, masterA, masterB, each, Node, Reordered}
 use Rattle.matching.specs.Definitions.Columns.{tabulate, Inside}
-use Rattle.matching.specs.Definitions.Rows.{range, On, Spanned, xAt, yAt, nodeIn, nodesOn, Fit, Represents}
+use Rattle.matching.specs.Definitions.Rows.{range, On, Spanned, xAt, yAt, nodeIn, nodesOn, Fit}
 use Rattle.matching.specs.Definitions.Sizes.{nodeRows, linkRows, setRows}
 use Rattle.matching.specs.Laws.Amounts.{other}
 use Rattle.matching.specs.Laws.Columns.{tabulate-length, tabulate-get, tabulate-cong, same-place}
@@ -21,7 +19,7 @@ use Rattle.matching.specs.Theorems.RowOrder.{reordered-all, reordered-unique}
 use Rattle.tables.specs.Definitions.Sizes.{tableSize}
 use Rattle.tables.specs.Definitions.Tables.{nodesIn, GoodNode}
 use Rattle.tables.specs.Definitions.Edits.{masterOf, numberOf}
-use Rattle.stability.specs.Barred.{Barred, Patched, barred-patched}
+use Rattle.stability.specs.Barred.{Patched, barred-patched}
 use Rattle.update.specs.Rows.{nodesBetween, Outdated, Same, Current}
 use Rattle.update.specs.Update.{named, Edited, Updated}
 use Rattle.update.proofs.Laws.Written.{same-node, same-patched}
@@ -114,7 +112,8 @@ module _ {a b e ns : List ℕ} {at : List (List ℤ)} {cs : List ℕ} {s : Spans
   }
 
   -- and after.
-  module _ (m : Master) (is : named e ≡ m) {k : ℕ} {ns' : List ℕ} {at' : List (List ℤ)} {cs' L' : List ℕ} (u : Current (each a b m) (range s m) ns at cs L k ns' at' cs' L') where
+  module _ (m : Master) (is : named e ≡ m) {k : ℕ} {ns' : List ℕ} {at' : List (List ℤ)} {cs' L' : List ℕ}
+      (u : Current (each a b m) (range s m) ns at cs L k ns' at' cs' L') where
     abbrev first : ℕ
     first = range s m .from
 
@@ -135,7 +134,8 @@ module _ {a b e ns : List ℕ} {at : List (List ℤ)} {cs : List ℕ} {s : Spans
 
     own-inside : (i : ℕ) → first ≤ i → i < k → Inside (xAt at' i) (yAt at' i)
     own-inside i l h =
-        let g = subst GoodNode (at-row i (node i) l h) (all-get GoodNode rows (i - first) (node i) (within i l h) (reordered-all GoodNode (u .nodes) (o .good m .good))) in
+        let all = reordered-all GoodNode (u .nodes) (o .good m .good) in
+        let g = subst GoodNode (at-row i (node i) l h) (all-get GoodNode rows (i - first) (node i) (within i l h) all) in
         (g .across, g .up)
 
     own-distinct : (i j : ℕ) → first ≤ i → i < k → first ≤ j → j < k → getD ns' i 0 ≡ getD ns' j 0 → i ≡ j
@@ -156,7 +156,9 @@ module _ {a b e ns : List ℕ} {at : List (List ℤ)} {cs : List ℕ} {s : Spans
 
     own-nodes : Reordered (each (nodesIn a) (nodesIn b) m) (nodesOn s' ns' at' cs' m)
     unfolding nodesOn
-    own-nodes = rw (tables m) at (subst (λ (r : Range). Reordered (nodesIn (each a b m)) (tabulate node (r .from) (r .to - r .from))) (own-range s k m) (u .nodes))
+    own-nodes =
+        rw (tables m) at
+        (subst (λ (r : Range). Reordered (nodesIn (each a b m)) (tabulate node (r .from) (r .to - r .from))) (own-range s k m) (u .nodes))
 
     other-nodes : Reordered (each (nodesIn a) (nodesIn b) (other m)) (nodesOn s' ns' at' cs' (other m))
     unfolding nodesOn

@@ -8,51 +8,58 @@ use Rattle.update.proofs.node.update_node.Tie as tie
 
 store-requires : tie.Need-store-requires
 store-requires c κs =
-    let q = c .before .before .before .before in
+    let k = c .before .before .before in
+    let q = k .before in
     let f = q .before in
     let o = f .before .before .before .before .before .before .pre .0 in
-    (o .size, c .before .before .before .if1 .taken, omega (arith, row-room o (f .find .ensures) (q .row-of .ensures) (c .before .before .before .if1 .taken), o .room), o .columns)
+    (o .size, k .if1 .taken, omega (arith, row-room o (f .find .ensures) (q .row-of .ensures) (k .if1 .taken), o .room), o .columns)
 
 slice-write-limits : tie.Need-slice-write-limits
 slice-write-limits c =
-    let q = c .before .before .before .before .before .before .before .before .before .before in
+    let k = c .before .before .before .before .before .before .before .before .before in
+    let q = k .before in
     let f = q .before in
     let o = f .before .before .before .before .before .before .pre .0 in
-    omega (arith, row-room o (f .find .ensures) (q .row-of .ensures) (c .before .before .before .before .before .before .before .before .before .if1 .taken), o .room, o .limits)
+    omega (arith, row-room o (f .find .ensures) (q .row-of .ensures) (k .if1 .taken), o .room, o .limits)
 
 returns : tie.Need-returns
 returns c =
     let w = c .before .before .before .before .before .before .before in
-    let q = w .before .before .before .before .before in
+    let k = w .before .before .before .before in
+    let q = k .before in
     let f = q .before in
     let p = f .before .before .before .before .before .before .pre in
-    (node-written (p .0) (f .find .ensures) (q .row-of .ensures) (w .before .before .before .before .if1 .taken) (w .store .ensures) refl (c .if2 .taken), p .2)
+    (node-written (p .0) (f .find .ensures) (q .row-of .ensures) (k .if1 .taken) (w .store .ensures) refl (c .if2 .taken), p .2)
 
 returns-2 : tie.Need-returns-2
 returns-2 c =
     let w = c .before .before .before .before .before .before .before in
-    let q = w .before .before .before .before .before in
+    let k = w .before .before .before .before in
+    let q = k .before in
     let f = q .before in
     let p = f .before .before .before .before .before .before .pre in
-    (node-added (p .0) (f .find .ensures) (q .row-of .ensures) (w .before .before .before .before .if1 .taken) (w .store .ensures) refl (c .if2 .left), p .2)
+    (node-added (p .0) (f .find .ensures) (q .row-of .ensures) (k .if1 .taken) (w .store .ensures) refl (c .if2 .left), p .2)
 
 returns-3 : tie.Need-returns-3
 returns-3 c =
     let w = c .before .before .before .before .before .before .before .before .before .before in
-    let n = w .before .before .before .before .before .before in
-    let q = n .before .before .before in
+    let l = w .before .before .before .before .before .before in
+    let k = l .before .before in
+    let q = k .before in
     let f = q .before in
-    let p = f .before .before .before .before .before .before .pre in (
-      node-removed (p .0) (f .find .ensures) _ (q .row-of .ensures) (n .before .before .if1 .left) (n .if3 .taken) (omega arith) (w .fill .ensures .0) (w .fill .ensures .1),
+    let p = f .before .before .before .before .before .before .pre in
+    let d = w .fill .ensures in (
+      node-removed (p .0) (f .find .ensures) _ (q .row-of .ensures) (k .if1 .left) (l .if3 .taken) (omega arith) (d .0) (d .1),
       c .before .redirect .ensures ∙ p .2,
     )
 
 returns-4 : tie.Need-returns-4
 returns-4 c =
-    let q = c .before .before .before in
+    let k = c .before .before in
+    let q = k .before in
     let f = q .before in
     let p = f .before .before .before .before .before .before .pre in
-    (node-missing (p .0) (f .find .ensures) (q .row-of .ensures) (c .before .before .if1 .left) (c .if3 .left), p .2)
+    (node-missing (p .0) (f .find .ensures) (q .row-of .ensures) (k .if1 .left) (c .if3 .left), p .2)
 
 pub update-node-spec : {M : Type 1} → statement M
 update-node-spec =
