@@ -7,7 +7,7 @@ use lib.ListN.{length, set}
 use Rattle.matching.specs.declared.Spans.{Spans}
 use Rattle.matching.specs.Definitions.Nodes.{Master, each, Node, Reordered}
 use Rattle.matching.specs.Definitions.Columns.{tabulate}
-use Rattle.matching.specs.Definitions.Sizes.{nodeRows, setRows}
+use Rattle.matching.specs.Definitions.Sizes.{nodeRows, half, setRows}
 use Rattle.matching.specs.Definitions.Rows.{range, Spanned, nodeIn, nodesOn}
 use Rattle.tables.specs.Definitions.Tables.{nodesIn}
 use Rattle.packing.specs.Packed.{Same}
@@ -32,9 +32,10 @@ pub record Decoded (t : List ℕ) (from n : ℕ) (ns : List ℕ) (at : List (Lis
   pub nodes : Reordered (nodesIn t) (tabulate (nodeIn ns' at' cs') from n)
   pub apart : (k : ℕ) → (from ≤ k → k < from + n → ⊥) → Same k ns at cs ns' at' cs'
 
--- Both tables are in the set, each master's nodes in some order. Nothing is said of what the tables hold.
+-- Both tables are in the set, each master's nodes in some order, with room for as many as a table can have. Nothing is said of what the tables hold.
 pub record Loaded (a b ns : List ℕ) (at : List (List ℤ)) (cs : List ℕ) (s : Spans) : Type 0 where
   pub columns : Columns ns at cs
   pub spans : Spanned s
+  pub room : (m : Master) → range s m .from + nodeRows ≤ each half setRows m
   pub count : (m : Master) → range s m .to ≡ range s m .from + length (nodesIn (each a b m))
   pub nodes : (m : Master) → Reordered (nodesIn (each a b m)) (nodesOn s ns at cs m)

@@ -8,14 +8,14 @@ use lib.ListN.{length, getD}
 use Rattle.matching.specs.declared.Spans.{Spans}
 use Rattle.matching.specs.Definitions.Nodes.{Master, masterA, masterB, each, Node, Unique, Reordered}
 use Rattle.matching.specs.Definitions.Columns.{tabulate}
-use Rattle.matching.specs.Definitions.Sizes.{half, setRows}
+use Rattle.matching.specs.Definitions.Sizes.{nodeRows, half, setRows}
 use Rattle.matching.specs.Definitions.Rows.{range, On, nodeIn, nodesOn, Represents}
 use Rattle.matching.specs.Laws.Lists.{all-at}
 use Rattle.matching.specs.Laws.Columns.{tabulate-get, tabulate-all, tabulate-cong, same-place}
 use Rattle.matching.specs.Laws.Sets.{on-in, on-length}
 use Rattle.matching.specs.Theorems.RowOrder.{reordered-all, reordered-unique, reordered-back}
 use Rattle.tables.specs.Definitions.Tables.{nodesIn, Accepted, GoodNode, GoodNodes}
-use Rattle.tables.specs.Laws.Accepted.{room, nodes-good}
+use Rattle.tables.specs.Laws.Accepted.{room as few, nodes-good}
 use Rattle.load.specs.Load.{Decoded, Loaded}
 use Rattle.load.specs.Index.{Distinct, Named}
 use Rattle.load.specs.Laws.Decode.{same-node}
@@ -38,12 +38,17 @@ loaded {a} {b} {n} {m} {ns' = ns'} {at' = at'} {cs' = cs'} {ns'' = ns''} {at'' =
     block-a = refl;
     block-b = refl;
   };
+  room = room;
   count = count;
   nodes = nodes;
 }
   where
     s : Spans
     s = record { a = record { from = 0; to = n }; b = record { from = half; to = half + m } }
+
+    room : (o : Master) → range s o .from + nodeRows ≤ each half setRows o
+    room masterA = omega arith
+    room masterB = omega arith
 
     count : (o : Master) → range s o .to ≡ range s o .from + length (nodesIn (each a b o))
     count masterA = omega (arith, p .count)
@@ -79,7 +84,7 @@ module _ {a b ns : List ℕ} {at : List (List ℤ)} {cs : List ℕ} {s : Spans} 
   loaded-named m = record {
     room = l .columns .numbers;
     order = omega (arith, l .count m);
-    most = omega (arith, l .count m, room (each a b m));
+    most = omega (arith, l .count m, few (each a b m));
     end = end m;
     count = l .count m;
     unique = λ d. reordered-unique (reordered-back (l .nodes m)) (unique d);
