@@ -1,9 +1,60 @@
 // The links after an edit, made from those before it. Nothing is promised of them: who uses them checks them.
+mod blocks;
+mod budget;
+mod left;
+mod nearest;
+mod pairs;
+mod run;
+mod sizes;
+mod surplus;
+
 ghost use Prim.Native.Nat.{_≤_, suc};
 ghost use Rattle.matching.specs.Definitions.Sizes.{linkRows};
 ghost use Rattle.matching.specs.Definitions.Rows.{Fit};
 ghost use Rattle.repair.specs.Repair.{Links};
+use matching::Range;
 use matching::Spans;
+use matching::sizes::BLOCKS;
+use matching::sizes::ROWS;
+
+// The row of a range with this number; ROWS where there is none.
+fn row_of(number: u32, r: Range, ns: &[u32]) -> usize {
+    let mut k = r.from;
+    while k < r.to {
+        if ns[k] == number {
+            return k;
+        }
+        k += 1;
+    }
+    ROWS
+}
+
+// The edited node, if it is there, had nothing left.
+fn start(
+    number: u32,
+    second: bool,
+    s: Spans,
+    ns: &[u32],
+    at: &[[i16; 2]],
+    left: &mut [[u32; 2]],
+    open: &[u32],
+    boxes: &[[i16; 4]],
+    surplus: &mut [[u64; 2]],
+) -> run::Run {
+    let r = run::Run {
+        old: 0,
+        links: 0,
+        rows: 0,
+        first: 0,
+        budget: sizes::ADVANCE,
+    };
+    let k = if second { row_of(number, s.b, ns) } else { row_of(number, s.a, ns) };
+    if k == ROWS {
+        return r;
+    }
+    left[k] = [0, left[k][1]];
+    surplus::enter(r, k, 0, s, ns, at, open, boxes, surplus)
+}
 
 // The new links and their places from the n old ones, of a set in which the node `number` of the second master, or of the first, was edited;
 // gives their number, or more than there can be where it would cost as much as a join.
@@ -23,5 +74,14 @@ pub fn repair(
     requires { ⌜ Fit (now ns) (now at) (now cs) s × Links (now old) (now from) n × Links (now new) (now to) 0 ⌝ }
     ensures { λ r. ⌜ (r ≤ suc linkRows) × Links (now (new .exit)) (now (to .exit)) 0 ⌝ }
 {
-    0
+    let mut boxes = [[0i16; 4]; BLOCKS];
+    let mut open = [0u32; BLOCKS];
+    blocks::survey(s.a, at, &mut boxes, &mut open);
+    blocks::survey(s.b, at, &mut boxes, &mut open);
+    let mut left = [[0u32; 2]; ROWS];
+    left::fill(s.a, cs, &mut left);
+    left::fill(s.b, cs, &mut left);
+    let mut surplus = [[0u64; 2]; sizes::SURPLUS];
+    let r = start(number, second, s, ns, at, &mut left, &open, &boxes, &mut surplus);
+    run::all(r, s, ns, at, &old[..n], from, &mut left, &mut open, &boxes, &mut surplus, new, to)
 }
