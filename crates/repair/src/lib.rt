@@ -1,7 +1,8 @@
 // The links after an edit, made from those before it. Nothing is promised of them: who uses them checks them.
 mod blocks;
-mod budget;
+mod cost;
 mod left;
+mod links;
 mod nearest;
 mod pairs;
 mod run;
@@ -9,16 +10,23 @@ mod sizes;
 mod surplus;
 
 ghost use Prim.Native.Nat.{_≤_, suc};
-ghost use Rattle.matching.specs.Definitions.Sizes.{linkRows};
+ghost use mathlib.Core.Path.{_≡_};
+ghost use lib.ListN.{length};
+ghost use Rattle.matching.specs.Definitions.Sizes.{linkRows, setRows};
 ghost use Rattle.matching.specs.Definitions.Rows.{Fit};
 ghost use Rattle.repair.specs.Repair.{Links};
+ghost use Rattle.repair.specs.Sizes.{surplusRows};
+ghost use Rattle.repair.specs.State.{Both, Boxed, Fair};
 use matching::Range;
 use matching::Spans;
 use matching::sizes::BLOCKS;
 use matching::sizes::ROWS;
 
 // The row of a range with this number; ROWS where there is none.
-fn row_of(number: u32, r: Range, ns: &[u32]) -> usize {
+fn row_of(number: u32, r: Range, ns: &[u32]) -> usize
+    requires { ⌜ (r .to ≤ setRows) × (length (now ns) ≡ setRows) ⌝ }
+    ensures { λ k. ⌜ k ≤ setRows ⌝ }
+{
     let mut k = r.from;
     while k < r.to {
         if ns[k] == number {
@@ -29,31 +37,32 @@ fn row_of(number: u32, r: Range, ns: &[u32]) -> usize {
     ROWS
 }
 
-// The edited node, if it is there, had nothing left.
+// The run begins: row k, if there is such a one, is the edited node's, which had nothing left.
 fn start(
-    number: u32,
-    second: bool,
+    k: usize,
     s: Spans,
     ns: &[u32],
     at: &[[i16; 2]],
     left: &mut [[u32; 2]],
-    open: &[u32],
+    blocks: &[[u32; 2]],
     boxes: &[[i16; 4]],
     surplus: &mut [[u64; 2]],
-) -> run::Run {
+) -> run::Run
+    requires { ⌜ Both (now ns) (now at) s × (length (now left) ≡ setRows) × Boxed (now blocks) (now boxes) × (length (now surplus) ≡ surplusRows) ⌝ }
+    ensures { λ r. ⌜ Fair r ⌝ }
+{
     let r = run::Run {
         old: 0,
         links: 0,
         rows: 0,
         first: 0,
-        budget: sizes::ADVANCE,
+        cost: 0,
     };
-    let k = if second { row_of(number, s.b, ns) } else { row_of(number, s.a, ns) };
-    if k == ROWS {
+    if k >= ROWS {
         return r;
     }
     left[k] = [0, left[k][1]];
-    surplus::enter(r, k, 0, s, ns, at, open, boxes, surplus)
+    surplus::enter(r, k, 0, s, ns, at, blocks, boxes, surplus)
 }
 
 // The new links and their places from the n old ones, of a set in which the node `number` of the second master, or of the first, was edited;
@@ -74,14 +83,29 @@ pub fn repair(
     requires { ⌜ Fit (now ns) (now at) (now cs) s × Links (now old) (now from) n × Links (now new) (now to) 0 ⌝ }
     ensures { λ r. ⌜ (r ≤ suc linkRows) × Links (now (new .exit)) (now (to .exit)) 0 ⌝ }
 {
+    let mut blocks = [[0u32; 2]; BLOCKS];
     let mut boxes = [[0i16; 4]; BLOCKS];
-    let mut open = [0u32; BLOCKS];
-    blocks::survey(s.a, at, &mut boxes, &mut open);
-    blocks::survey(s.b, at, &mut boxes, &mut open);
+    blocks::survey(s.a, ns, at, &mut blocks, &mut boxes);
+    blocks::survey(s.b, ns, at, &mut blocks, &mut boxes);
     let mut left = [[0u32; 2]; ROWS];
     left::fill(s.a, cs, &mut left);
     left::fill(s.b, cs, &mut left);
     let mut surplus = [[0u64; 2]; sizes::SURPLUS];
-    let r = start(number, second, s, ns, at, &mut left, &open, &boxes, &mut surplus);
-    run::all(r, s, ns, at, &old[..n], from, &mut left, &mut open, &boxes, &mut surplus, new, to)
+    let r = if second { s.b } else { s.a };
+    let k = row_of(number, r, ns);
+    let run = start(k, s, ns, at, &mut left, &blocks, &boxes, &mut surplus);
+    run::all(
+        run,
+        s,
+        ns,
+        at,
+        &old[..n],
+        from,
+        &mut left,
+        &mut blocks,
+        &boxes,
+        &mut surplus,
+        new,
+        to,
+    )
 }

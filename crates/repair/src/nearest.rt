@@ -5,6 +5,13 @@ use matching::Range;
 use matching::Spans;
 use matching::sizes::BLOCK;
 use matching::sizes::ROWS;
+ghost use Prim.Native.Nat.{_<_};
+ghost use mathlib.Core.Path.{_≡_};
+ghost use lib.ListN.{length};
+ghost use Rattle.matching.specs.Definitions.Columns.{Inside};
+ghost use Rattle.matching.specs.Definitions.Rows.{across, upward};
+ghost use Rattle.matching.specs.Definitions.Sizes.{setRows, setBlocks};
+ghost use Rattle.repair.specs.State.{Ranged, Both, Boxed, Near as IsNear, Searched};
 
 // A row, and its distance and number as one key: the lesser key comes first.
 pub struct Near {
@@ -24,8 +31,25 @@ pub struct Found {
     pub scans: usize,
 }
 
+// No row yet.
+fn none() -> Two
+    ensures { λ r. ⌜ IsNear r ⌝ }
+{
+    let n = Near {
+        key: sizes::NONE,
+        row: 0,
+    };
+    Two {
+        first: n,
+        second: n,
+    }
+}
+
 // The two nearest of s and n.
-fn closer(s: Two, n: Near) -> Two {
+fn closer(s: Two, n: Near) -> Two
+    requires { ⌜ IsNear s × (n .row < setRows) ⌝ }
+    ensures { λ r. ⌜ IsNear r ⌝ }
+{
     if n.key >= s.second.key {
         return s;
     }
@@ -43,7 +67,10 @@ fn closer(s: Two, n: Near) -> Two {
 }
 
 // The two nearest to p of s and row k, if that is one of the range.
-fn weigh(p: [i16; 2], k: usize, r: Range, s: Two, ns: &[u32], at: &[[i16; 2]]) -> Two {
+fn compare(p: [i16; 2], k: usize, r: Range, s: Two, ns: &[u32], at: &[[i16; 2]]) -> Two
+    requires { ⌜ Inside (across p) (upward p) × Ranged (now ns) (now at) r × IsNear s ⌝ }
+    ensures { λ r. ⌜ IsNear r ⌝ }
+{
     if k < r.from {
         return s;
     }
@@ -57,35 +84,49 @@ fn weigh(p: [i16; 2], k: usize, r: Range, s: Two, ns: &[u32], at: &[[i16; 2]]) -
     closer(s, n)
 }
 
-// The two nearest to p of s and the open rows of block b.
-fn scan(p: [i16; 2], b: usize, r: Range, s: Two, ns: &[u32], at: &[[i16; 2]], open: &[u32]) -> Two {
+// The two nearest to p of s and the rows of block b that have something left.
+fn scan(
+    p: [i16; 2],
+    b: usize,
+    r: Range,
+    s: Two,
+    ns: &[u32],
+    at: &[[i16; 2]],
+    blocks: &[[u32; 2]],
+) -> Two
+    requires { ⌜ Inside (across p) (upward p) × Ranged (now ns) (now at) r × IsNear s × (b < setBlocks) × (length (now blocks) ≡ setBlocks) ⌝ }
+    ensures { λ r. ⌜ IsNear r ⌝ }
+{
     let mut best = s;
-    let mut m = open[b];
+    let mut m = blocks[b][0];
     while m != 0 {
         let k = b * BLOCK + (u32::trailing_zeros(m) as usize);
-        best = weigh(p, k, r, best, ns, at);
+        best = compare(p, k, r, best, ns, at);
         m = m & (m - 1);
     }
     best
 }
 
-// The two nearest to p of a range's open rows. The block of row `near` comes first, so that far blocks are passed over.
+// The two nearest to p of a range's rows that have something left. The block of row `near` comes first, so that far blocks are passed over.
 fn search(
     p: [i16; 2],
     near: usize,
     r: Range,
     ns: &[u32],
     at: &[[i16; 2]],
-    open: &[u32],
+    blocks: &[[u32; 2]],
     boxes: &[[i16; 4]],
-) -> Found {
+) -> Found
+    requires { ⌜ Inside (across p) (upward p) × Ranged (now ns) (now at) r × Boxed (now blocks) (now boxes) ⌝ }
+    ensures { λ f. ⌜ Searched f ⌝ }
+{
     let start = near % ROWS / BLOCK;
-    let mut two = scan(p, start, r, none(), ns, at, open);
+    let mut two = scan(p, start, r, none(), ns, at, blocks);
     let mut scans = 1;
     let mut b = r.from / BLOCK;
     while b * BLOCK < r.to {
-        if b != start && blocks::reaches(p, b, matching::distance(two.second.key), open, boxes) {
-            two = scan(p, b, r, two, ns, at, open);
+        if b != start && blocks::reaches(p, b, two.second.key, blocks, boxes) {
+            two = scan(p, b, r, two, ns, at, blocks);
             scans += 1;
         }
         b += 1;
@@ -96,33 +137,30 @@ fn search(
     }
 }
 
-// No row yet.
-fn none() -> Two {
-    let n = Near {
-        key: sizes::NONE,
-        row: 0,
-    };
-    Two {
-        first: n,
-        second: n,
-    }
-}
-
-// The two nearest to row t of the other master's open rows; the block of row `near` is looked through first.
+// The two nearest to row t of the other master's rows that have something left; the block of row `near` is looked through first.
 pub fn partners(
     t: usize,
     near: usize,
     s: Spans,
     ns: &[u32],
     at: &[[i16; 2]],
-    open: &[u32],
+    blocks: &[[u32; 2]],
     boxes: &[[i16; 4]],
-) -> Found {
-    if s.a.from <= t && t < s.a.to {
-        return search(at[t], near, s.b, ns, at, open, boxes);
+) -> Found
+    requires { ⌜ Both (now ns) (now at) s × Boxed (now blocks) (now boxes) ⌝ }
+    ensures { λ f. ⌜ Searched f ⌝ }
+{
+    let a = s.a;
+    let b = s.b;
+    if t >= a.from {
+        if t < a.to {
+            return search(at[t], near, b, ns, at, blocks, boxes);
+        }
     }
-    if s.b.from <= t && t < s.b.to {
-        return search(at[t], near, s.a, ns, at, open, boxes);
+    if t >= b.from {
+        if t < b.to {
+            return search(at[t], near, a, ns, at, blocks, boxes);
+        }
     }
     Found {
         two: none(),

@@ -1,141 +1,140 @@
 // A run along the old links: the next link is the earlier of the next old link and of the candidates of the rows with a surplus.
-use crate::budget::earn;
-use crate::budget::give_up;
+use crate::cost::is_over;
 use crate::left;
+use crate::links;
 use crate::pairs;
 use crate::sizes;
 use crate::surplus;
-use matching::Range;
 use matching::Spans;
 use matching::sizes::LINKS;
 use matching::sizes::ROWS;
+ghost use Prim.Native.Nat.{_<_, _≤_, suc};
+ghost use mathlib.Core.Path.{_≡_};
+ghost use mathlib.Core.Bool.{true};
+ghost use lib.ListN.{length};
+ghost use Rattle.matching.specs.Definitions.Sizes.{setRows, linkRows};
+ghost use Rattle.repair.specs.Repair.{Links};
+ghost use Rattle.repair.specs.Sizes.{surplusRows};
+ghost use Rattle.repair.specs.State.{Both, Boxed, Counted, Fair};
 
-// The next old link, how many links are written, how many rows have a surplus, the place of their earliest candidate, and what may still be spent.
+// The next old link, how many links are written, how many rows have a surplus, the place of the earliest candidate, and what the run has cost.
 pub struct Run {
     pub old: usize,
     pub links: usize,
     pub rows: usize,
     pub first: usize,
-    pub budget: usize,
+    pub cost: usize,
 }
 
-// Writes the link of A's row i and B's row j with an amount m, unless that is nothing.
-fn write(run: Run, i: usize, j: usize, d: u32, m: u32, ns: &[u32], new: &mut [[u32; 4]], to: &mut [[u16; 2]]) -> Run {
-    if m == 0 {
-        return run;
+// Where two nodes with these numbers stand in the places and have as much left as they had, they lose the link's amount; says whether.
+fn repeat(
+    link: [u32; 4],
+    places: [u16; 2],
+    ns: &[u32],
+    left: &mut [[u32; 2]],
+    blocks: &mut [[u32; 2]],
+) -> bool
+    requires { ⌜ (length (now ns) ≡ setRows) × Counted (now left) (now blocks) ⌝ }
+{
+    let i = places[0] as usize;
+    let j = places[1] as usize;
+    if i >= ROWS {
+        return false;
     }
-    let n = run.links;
+    if j >= ROWS {
+        return false;
+    }
+    if ns[i] != link[0] {
+        return false;
+    }
+    if ns[j] != link[1] {
+        return false;
+    }
+    left::repeat(i, j, link[3], left, blocks)
+}
+
+// Writes old link k as link n, if it comes before candidate p and is as it was; gives how many links are written.
+fn copy(
+    k: usize,
+    n: usize,
+    p: u64,
+    ns: &[u32],
+    old: &[[u32; 4]],
+    from: &[[u16; 2]],
+    left: &mut [[u32; 2]],
+    blocks: &mut [[u32; 2]],
+    new: &mut [[u32; 4]],
+    to: &mut [[u16; 2]],
+) -> usize
+    requires { ⌜ (k < length (now old)) × (length (now old) ≤ length (now from)) × (n ≤ linkRows) × (length (now ns) ≡ setRows) ⌝ }
+    requires { ⌜ Counted (now left) (now blocks) × Links (now new) (now to) 0 ⌝ }
+    ensures { λ r. ⌜ r ≤ linkRows ⌝ }
+{
     if n >= LINKS {
-        return give_up(run);
+        return n;
     }
-    new[n] = [ns[i], ns[j], d, m];
-    to[n] = [i as u16, j as u16];
+    if !pairs::is_before(old[k], p, ns) {
+        return n;
+    }
+    if !repeat(old[k], from[k], ns, left, blocks) {
+        return n;
+    }
+    new[n] = old[k];
+    to[n] = from[k];
+    n + 1
+}
+
+// The run goes on to old link k, with n links written.
+fn moved(run: Run, k: usize, n: usize) -> Run
+    requires { ⌜ Fair run × (k ≤ linkRows) × (n ≤ linkRows) ⌝ }
+    ensures { λ r. ⌜ Fair r ⌝ }
+{
     let mut r = run;
-    r.links = n + 1;
+    r.old = k;
+    r.links = n;
     r
 }
 
-// The row where a node with this number is said to stand in a range; ROWS where it does not stand there.
-fn find(hint: u16, number: u32, r: Range, ns: &[u32]) -> usize {
-    let k = hint as usize;
-    if k < r.from {
-        return ROWS;
-    }
-    if k >= r.to {
-        return ROWS;
-    }
-    if ns[k] != number {
-        return ROWS;
-    }
-    k
-}
-
-// An old link takes m of what row k had left; `near` is the row of its other node.
-fn release(
+// Copies old links as long as they are as they were and come before the earliest candidate.
+fn pass(
     run: Run,
-    k: usize,
-    near: usize,
-    m: u32,
-    s: Spans,
     ns: &[u32],
-    at: &[[i16; 2]],
+    old: &[[u32; 4]],
+    from: &[[u16; 2]],
     left: &mut [[u32; 2]],
-    open: &[u32],
-    boxes: &[[i16; 4]],
-    surplus: &mut [[u64; 2]],
-) -> Run {
-    if k >= ROWS {
-        return run;
-    }
-    if left::release(k, m, left) {
-        return surplus::enter(run, k, near, s, ns, at, open, boxes, surplus);
-    }
-    run
-}
-
-// An old link, and where its nodes are said to stand: it is taken with what they have left now.
-fn follow(
-    run: Run,
-    link: [u32; 4],
-    places: [u16; 2],
-    s: Spans,
-    ns: &[u32],
-    at: &[[i16; 2]],
-    left: &mut [[u32; 2]],
-    open: &mut [u32],
-    boxes: &[[i16; 4]],
-    surplus: &mut [[u64; 2]],
+    blocks: &mut [[u32; 2]],
+    surplus: &[[u64; 2]],
     new: &mut [[u32; 4]],
     to: &mut [[u16; 2]],
-) -> Run {
-    let i = find(places[0], link[0], s.a, ns);
-    let j = find(places[1], link[1], s.b, ns);
-    let m = link[3];
-    let mut r = run;
-    if i < ROWS && j < ROWS {
-        if left::repeat(i, j, m, left, open) {
-            return write(r, i, j, link[2], m, ns, new, to);
+) -> Run
+    requires { ⌜ Fair run × (length (now ns) ≡ setRows) × (length (now old) ≤ linkRows) × (length (now old) ≤ length (now from)) ⌝ }
+    requires { ⌜ Counted (now left) (now blocks) × (length (now surplus) ≡ surplusRows) × Links (now new) (now to) 0 ⌝ }
+    ensures { λ r. ⌜ Fair r ⌝ }
+{
+    let p = surplus::candidate(run, surplus);
+    let mut k = run.old;
+    let mut n = run.links;
+    while k < old.len() {
+        let m = copy(k, n, p, ns, old, from, left, blocks, new, to);
+        if m == n {
+            return moved(run, k, n);
         }
-        let x = left::retake(i, j, left, open);
-        r = write(r, i, j, link[2], x, ns, new, to);
+        n = m;
+        k += 1;
     }
-    r = release(r, i, places[1] as usize, m, s, ns, at, left, open, boxes, surplus);
-    release(r, j, places[0] as usize, m, s, ns, at, left, open, boxes, surplus)
+    moved(run, k, n)
 }
 
-// The earliest candidate is taken with what its rows have left.
-fn claim(
-    run: Run,
-    s: Spans,
-    ns: &[u32],
-    at: &[[i16; 2]],
-    left: &mut [[u32; 2]],
-    open: &mut [u32],
-    boxes: &[[i16; 4]],
-    surplus: &mut [[u64; 2]],
-    new: &mut [[u32; 4]],
-    to: &mut [[u16; 2]],
-) -> Run {
-    let e = run.first;
-    let p = surplus[e][0];
-    let t = pairs::owner(p);
-    let w = pairs::partner(p);
-    let m = left::take(t, w, left, open);
-    let r = write(run, pairs::light(t, w), pairs::bold(t, w), matching::distance(p), m, ns, new, to);
-    surplus::advance(r, p, s, ns, at, left, open, boxes, surplus)
-}
-
-// Whether the earliest candidate is next: no old link comes before it.
-fn is_due(run: Run, ns: &[u32], old: &[[u32; 4]], surplus: &[[u64; 2]]) -> bool {
-    if run.rows == 0 {
-        return false;
-    }
+// Whether an old link is next: it comes before the earliest candidate.
+fn is_next(run: Run, ns: &[u32], old: &[[u32; 4]], surplus: &[[u64; 2]]) -> bool
+    requires { ⌜ Fair run × (length (now ns) ≡ setRows) × (length (now surplus) ≡ surplusRows) ⌝ }
+    ensures { λ r. ⌜ (r ≡ true → run .old < length (now (old .entry))) ⌝ }
+{
     let k = run.old;
     if k >= old.len() {
-        return true;
+        return false;
     }
-    let e = run.first;
-    !pairs::is_before(old[k], surplus[e][0], ns)
+    pairs::is_before(old[k], surplus::candidate(run, surplus), ns)
 }
 
 // The next link.
@@ -147,26 +146,46 @@ fn turn(
     old: &[[u32; 4]],
     from: &[[u16; 2]],
     left: &mut [[u32; 2]],
-    open: &mut [u32],
+    blocks: &mut [[u32; 2]],
     boxes: &[[i16; 4]],
     surplus: &mut [[u64; 2]],
     new: &mut [[u32; 4]],
     to: &mut [[u16; 2]],
-) -> Run {
-    if is_due(run, ns, old, surplus) {
-        return claim(run, s, ns, at, left, open, boxes, surplus, new, to);
+) -> Run
+    requires { ⌜ Fair run × Both (now ns) (now at) s × (length (now old) ≤ linkRows) × (length (now old) ≤ length (now from)) ⌝ }
+    requires { ⌜ (length (now left) ≡ setRows) × Boxed (now blocks) (now boxes) × (length (now surplus) ≡ surplusRows) × Links (now new) (now to) 0 ⌝ }
+    ensures { λ r. ⌜ Fair r ⌝ }
+{
+    if !is_next(run, ns, old, surplus) {
+        return links::claim(run, s, ns, at, left, blocks, boxes, surplus, new, to);
     }
     let k = run.old;
-    if k >= old.len() {
-        return give_up(run);
-    }
-    let mut r = run;
-    r.old = k + 1;
-    r.budget = earn(run.budget);
-    follow(r, old[k], from[k], s, ns, at, left, open, boxes, surplus, new, to)
+    let r = moved(run, k + 1, run.links);
+    links::follow(
+        r,
+        old[k],
+        from[k],
+        s,
+        ns,
+        at,
+        left,
+        blocks,
+        boxes,
+        surplus,
+        new,
+        to,
+    )
 }
 
-// All links; gives their number, or more than there can be where the run has cost too much.
+// The run has no old link of n ahead, and no row has a surplus.
+fn is_done(run: Run, n: usize) -> bool {
+    if run.old < n {
+        return false;
+    }
+    run.rows == 0
+}
+
+// All links; gives their number, or more than there can be where the run costs too much.
 pub fn all(
     run: Run,
     s: Spans,
@@ -175,19 +194,40 @@ pub fn all(
     old: &[[u32; 4]],
     from: &[[u16; 2]],
     left: &mut [[u32; 2]],
-    open: &mut [u32],
+    blocks: &mut [[u32; 2]],
     boxes: &[[i16; 4]],
     surplus: &mut [[u64; 2]],
     new: &mut [[u32; 4]],
     to: &mut [[u16; 2]],
-) -> usize {
+) -> usize
+    requires { ⌜ Fair run × Both (now ns) (now at) s × (length (now old) ≤ linkRows) × (length (now old) ≤ length (now from)) ⌝ }
+    requires { ⌜ (length (now left) ≡ setRows) × Boxed (now blocks) (now boxes) × (length (now surplus) ≡ surplusRows) × Links (now new) (now to) 0 ⌝ }
+    ensures { λ r. ⌜ r ≤ suc linkRows ⌝ }
+{
     let mut r = run;
     let mut k = 0;
-    while k < sizes::TURNS && r.budget != 0 {
-        if r.old >= old.len() && r.rows == 0 {
+    while k < sizes::TURNS {
+        r = pass(r, ns, old, from, left, blocks, surplus, new, to);
+        if is_over(r) {
+            return LINKS + 1;
+        }
+        if is_done(r, old.len()) {
             return r.links;
         }
-        r = turn(r, s, ns, at, old, from, left, open, boxes, surplus, new, to);
+        r = turn(
+            r,
+            s,
+            ns,
+            at,
+            old,
+            from,
+            left,
+            blocks,
+            boxes,
+            surplus,
+            new,
+            to,
+        );
         k += 1;
     }
     LINKS + 1

@@ -2,15 +2,19 @@
 // The rows with a surplus that are kept: with more a repair gives up.
 pub const SURPLUS: usize = 64;
 
-// What a repair may cost at first, what each old link adds to that, and where no more is added; a block that is looked through costs one.
-pub const ADVANCE: usize = 256;
+// What a repair may cost: so much at first, and so much more for each old link that is passed. A unit is half a look through a block.
+pub const ADVANCE: usize = 32;
 
-pub const SHARE: usize = 6;
+pub const SHARE: usize = 4;
 
-pub const BUDGET: usize = 8192;
+// More than it may cost.
+pub const LIMIT: usize = 8192;
+
+// Rows with a surplus that are looked at for a unit.
+pub const LOOK: usize = 16;
 
 // The turns of a repair.
-pub const TURNS: usize = 16384;
+pub const TURNS: usize = 8192;
 
 // No key and no pair is as great.
 pub const NONE: u64 = 18446744073709551615;
@@ -18,5 +22,5 @@ pub const NONE: u64 = 18446744073709551615;
 // What the first row of a pair is multiplied by.
 pub const WIDTH: u64 = 1024;
 
-// Every row of a block.
+// A bit for every row of a block.
 pub const FULL: u32 = 4294967295;
