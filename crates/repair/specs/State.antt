@@ -1,5 +1,5 @@
 -- What a repair works on.
-use Prim.Native.Nat.{ℕ, _<_, _≤_}
+use Prim.Native.Nat.{ℕ, _+_, _<_, _≤_}
 use mathlib.Core.Path.{_≡_}
 use mathlib.Core.List.{List, []}
 use lib.ListN.{length, getD}
@@ -19,6 +19,7 @@ use Rattle.repair.specs.Sizes.{surplusRows}
 pub record Ranged (ns : List ℕ) (at : List (List ℤ)) (r : Range) : Type 0 where
   pub numbers : length ns ≡ setRows
   pub positions : length at ≡ setRows
+  pub order : r .from ≤ r .to
   pub end : r .to ≤ setRows
   pub inside : (k : ℕ) → r .from ≤ k → k < r .to → Inside (xAt at k) (yAt at k)
 

@@ -5,7 +5,7 @@ use matching::Range;
 use matching::Spans;
 use matching::sizes::BLOCK;
 use matching::sizes::ROWS;
-ghost use Prim.Native.Nat.{_<_};
+ghost use Prim.Native.Nat.{_+_, _<_, _≤_};
 ghost use mathlib.Core.Path.{_≡_};
 ghost use lib.ListN.{length};
 ghost use Rattle.matching.specs.Definitions.Columns.{Inside};
@@ -107,6 +107,35 @@ fn scan(
     best
 }
 
+// The two nearest to p of those found and of block b, unless that is the block looked through first, or too far away.
+fn visit(
+    p: [i16; 2],
+    b: usize,
+    start: usize,
+    r: Range,
+    f: Found,
+    ns: &[u32],
+    at: &[[i16; 2]],
+    blocks: &[[u32; 2]],
+    boxes: &[[i16; 4]],
+) -> Found
+    requires { ⌜ Inside (across p) (upward p) × Ranged (now ns) (now at) r × Searched f × (f .scans ≤ setBlocks) × (b < setBlocks) ⌝ }
+    requires { ⌜ Boxed (now blocks) (now boxes) ⌝ }
+    ensures { λ g. ⌜ Searched g × (g .scans ≤ f .scans + 1) ⌝ }
+{
+    if b == start {
+        return f;
+    }
+    let two = f.two;
+    if !blocks::reaches(p, b, two.second.key, blocks, boxes) {
+        return f;
+    }
+    Found {
+        two: scan(p, b, r, two, ns, at, blocks),
+        scans: f.scans + 1,
+    }
+}
+
 // The two nearest to p of a range's rows that have something left. The block of row `near` comes first, so that far blocks are passed over.
 fn search(
     p: [i16; 2],
@@ -121,20 +150,16 @@ fn search(
     ensures { λ f. ⌜ Searched f ⌝ }
 {
     let start = near % ROWS / BLOCK;
-    let mut two = scan(p, start, r, none(), ns, at, blocks);
-    let mut scans = 1;
+    let mut f = Found {
+        two: scan(p, start, r, none(), ns, at, blocks),
+        scans: 1,
+    };
     let mut b = r.from / BLOCK;
     while b * BLOCK < r.to {
-        if b != start && blocks::reaches(p, b, two.second.key, blocks, boxes) {
-            two = scan(p, b, r, two, ns, at, blocks);
-            scans += 1;
-        }
+        f = visit(p, b, start, r, f, ns, at, blocks, boxes);
         b += 1;
     }
-    Found {
-        two: two,
-        scans: scans,
-    }
+    f
 }
 
 // The two nearest to row t of the other master's rows that have something left; the block of row `near` is looked through first.
