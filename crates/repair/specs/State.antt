@@ -28,9 +28,8 @@ pub record Both (ns : List ℕ) (at : List (List ℤ)) (s : Spans) : Type 0 wher
   pub a : Ranged ns at (s .a)
   pub b : Ranged ns at (s .b)
 
--- There is a row for each block, and each box is inside.
-pub record Boxed (blocks : List (List ℕ)) (boxes : List (List ℤ)) : Type 0 where
-  pub rows : length blocks ≡ setBlocks
+-- Each block has a box, which is inside.
+pub record Boxed (boxes : List (List ℤ)) : Type 0 where
   pub size : length boxes ≡ setBlocks
   pub inner : (b : ℕ) → b < setBlocks → Inner (getD boxes b [])
 

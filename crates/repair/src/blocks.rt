@@ -48,8 +48,8 @@ pub fn survey(
     blocks: &mut [[u32; 2]],
     boxes: &mut [[i16; 4]],
 )
-    requires { ⌜ Ranged (now ns) (now at) r × (r .from ≡ r .from / blockRows * blockRows) × Boxed (now blocks) (now boxes) ⌝ }
-    ensures { λ _. ⌜ Boxed (now (blocks .exit)) (now (boxes .exit)) ⌝ }
+    requires { ⌜ Ranged (now ns) (now at) r × (r .from ≡ r .from / blockRows * blockRows) × (length (now blocks) ≡ setBlocks) × Boxed (now boxes) ⌝ }
+    ensures { λ _. ⌜ Boxed (now (boxes .exit)) ⌝ }
 {
     let mut b = r.from / BLOCK;
     while b * BLOCK < r.to {
@@ -80,7 +80,7 @@ pub fn note(k: usize, x: u32, blocks: &mut [[u32; 2]])
 
 // Whether a row of block b that has something left can have a lesser key than `key`, as seen from p.
 pub fn reaches(p: [i16; 2], b: usize, key: u64, blocks: &[[u32; 2]], boxes: &[[i16; 4]]) -> bool
-    requires { ⌜ Inside (across p) (upward p) × (b < setBlocks) × Boxed (now blocks) (now boxes) ⌝ }
+    requires { ⌜ Inside (across p) (upward p) × (b < setBlocks) × (length (now blocks) ≡ setBlocks) × Boxed (now boxes) ⌝ }
 {
     if blocks[b][0] == 0 {
         return false;

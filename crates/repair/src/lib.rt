@@ -16,7 +16,7 @@ ghost use Rattle.matching.specs.Definitions.Sizes.{linkRows, setRows};
 ghost use Rattle.matching.specs.Definitions.Rows.{Fit};
 ghost use Rattle.repair.specs.Repair.{Links};
 ghost use Rattle.repair.specs.Sizes.{surplusRows};
-ghost use Rattle.repair.specs.State.{Both, Boxed, Fair};
+ghost use Rattle.repair.specs.State.{Both, Boxed, Counted, Fair};
 use matching::Range;
 use matching::Spans;
 use matching::sizes::BLOCKS;
@@ -48,7 +48,7 @@ fn start(
     boxes: &[[i16; 4]],
     surplus: &mut [[u64; 2]],
 ) -> run::Run
-    requires { ⌜ Both (now ns) (now at) s × (length (now left) ≡ setRows) × Boxed (now blocks) (now boxes) × (length (now surplus) ≡ surplusRows) ⌝ }
+    requires { ⌜ Both (now ns) (now at) s × Counted (now left) (now blocks) × Boxed (now boxes) × (length (now surplus) ≡ surplusRows) ⌝ }
     ensures { λ r. ⌜ Fair r ⌝ }
 {
     let r = run::Run {

@@ -101,7 +101,7 @@ fn release(
     boxes: &[[i16; 4]],
     surplus: &mut [[u64; 2]],
 ) -> Run
-    requires { ⌜ Fair run × Both (now ns) (now at) s × (length (now left) ≡ setRows) × Boxed (now blocks) (now boxes) × (length (now surplus) ≡ surplusRows) ⌝ }
+    requires { ⌜ Fair run × Both (now ns) (now at) s × Counted (now left) (now blocks) × Boxed (now boxes) × (length (now surplus) ≡ surplusRows) ⌝ }
     ensures { λ r. ⌜ Fair r ⌝ }
 {
     if k >= ROWS {
@@ -128,7 +128,7 @@ pub fn follow(
     new: &mut [[u32; 4]],
     to: &mut [[u16; 2]],
 ) -> Run
-    requires { ⌜ Fair run × Both (now ns) (now at) s × (length (now left) ≡ setRows) × Boxed (now blocks) (now boxes) × (length (now surplus) ≡ surplusRows) ⌝ }
+    requires { ⌜ Fair run × Both (now ns) (now at) s × Counted (now left) (now blocks) × Boxed (now boxes) × (length (now surplus) ≡ surplusRows) ⌝ }
     requires { ⌜ Links (now new) (now to) 0 ⌝ }
     ensures { λ r. ⌜ Fair r ⌝ }
 {
@@ -153,7 +153,7 @@ pub fn claim(
     new: &mut [[u32; 4]],
     to: &mut [[u16; 2]],
 ) -> Run
-    requires { ⌜ Fair run × Both (now ns) (now at) s × (length (now left) ≡ setRows) × Boxed (now blocks) (now boxes) × (length (now surplus) ≡ surplusRows) ⌝ }
+    requires { ⌜ Fair run × Both (now ns) (now at) s × Counted (now left) (now blocks) × Boxed (now boxes) × (length (now surplus) ≡ surplusRows) ⌝ }
     requires { ⌜ Links (now new) (now to) 0 ⌝ }
     ensures { λ r. ⌜ Fair r ⌝ }
 {

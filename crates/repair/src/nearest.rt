@@ -120,7 +120,7 @@ fn visit(
     boxes: &[[i16; 4]],
 ) -> Found
     requires { ⌜ Inside (across p) (upward p) × Ranged (now ns) (now at) r × Searched f × (f .scans ≤ setBlocks) × (b < setBlocks) ⌝ }
-    requires { ⌜ Boxed (now blocks) (now boxes) ⌝ }
+    requires { ⌜ (length (now blocks) ≡ setBlocks) × Boxed (now boxes) ⌝ }
     ensures { λ g. ⌜ Searched g × (g .scans ≤ f .scans + 1) ⌝ }
 {
     if b == start {
@@ -146,7 +146,7 @@ fn search(
     blocks: &[[u32; 2]],
     boxes: &[[i16; 4]],
 ) -> Found
-    requires { ⌜ Inside (across p) (upward p) × Ranged (now ns) (now at) r × Boxed (now blocks) (now boxes) ⌝ }
+    requires { ⌜ Inside (across p) (upward p) × Ranged (now ns) (now at) r × (length (now blocks) ≡ setBlocks) × Boxed (now boxes) ⌝ }
     ensures { λ f. ⌜ Searched f ⌝ }
 {
     let start = near % ROWS / BLOCK;
@@ -172,7 +172,7 @@ pub fn partners(
     blocks: &[[u32; 2]],
     boxes: &[[i16; 4]],
 ) -> Found
-    requires { ⌜ Both (now ns) (now at) s × Boxed (now blocks) (now boxes) ⌝ }
+    requires { ⌜ Both (now ns) (now at) s × (length (now blocks) ≡ setBlocks) × Boxed (now boxes) ⌝ }
     ensures { λ f. ⌜ Searched f ⌝ }
 {
     let a = s.a;

@@ -153,18 +153,29 @@ fn turn(
     to: &mut [[u16; 2]],
 ) -> Run
     requires { ⌜ Fair run × Both (now ns) (now at) s × (length (now old) ≤ linkRows) × (length (now old) ≤ length (now from)) ⌝ }
-    requires { ⌜ (length (now left) ≡ setRows) × Boxed (now blocks) (now boxes) × (length (now surplus) ≡ surplusRows) × Links (now new) (now to) 0 ⌝ }
+    requires { ⌜ Counted (now left) (now blocks) × Boxed (now boxes) × (length (now surplus) ≡ surplusRows) × Links (now new) (now to) 0 ⌝ }
     ensures { λ r. ⌜ Fair r ⌝ }
 {
-    if !is_next(run, ns, old, surplus) {
-        return links::claim(run, s, ns, at, left, blocks, boxes, surplus, new, to);
+    if is_next(run, ns, old, surplus) {
+        let k = run.old;
+        let r = moved(run, k + 1, run.links);
+        return links::follow(
+            r,
+            old[k],
+            from[k],
+            s,
+            ns,
+            at,
+            left,
+            blocks,
+            boxes,
+            surplus,
+            new,
+            to,
+        );
     }
-    let k = run.old;
-    let r = moved(run, k + 1, run.links);
-    links::follow(
-        r,
-        old[k],
-        from[k],
+    links::claim(
+        run,
         s,
         ns,
         at,
@@ -201,7 +212,7 @@ pub fn all(
     to: &mut [[u16; 2]],
 ) -> usize
     requires { ⌜ Fair run × Both (now ns) (now at) s × (length (now old) ≤ linkRows) × (length (now old) ≤ length (now from)) ⌝ }
-    requires { ⌜ (length (now left) ≡ setRows) × Boxed (now blocks) (now boxes) × (length (now surplus) ≡ surplusRows) × Links (now new) (now to) 0 ⌝ }
+    requires { ⌜ Counted (now left) (now blocks) × Boxed (now boxes) × (length (now surplus) ≡ surplusRows) × Links (now new) (now to) 0 ⌝ }
     ensures { λ r. ⌜ r ≤ suc linkRows ⌝ }
 {
     let mut r = run;

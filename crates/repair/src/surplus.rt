@@ -10,9 +10,9 @@ use matching::Spans;
 ghost use Prim.Native.Nat.{_<_, _≤_};
 ghost use mathlib.Core.Path.{_≡_};
 ghost use lib.ListN.{length};
-ghost use Rattle.matching.specs.Definitions.Sizes.{setRows};
+ghost use Rattle.matching.specs.Definitions.Sizes.{setRows, setBlocks};
 ghost use Rattle.repair.specs.Sizes.{surplusRows};
-ghost use Rattle.repair.specs.State.{Both, Boxed, Fair};
+ghost use Rattle.repair.specs.State.{Both, Boxed, Counted, Fair};
 
 // The earliest candidate; none where no row has a surplus.
 pub fn candidate(run: Run, surplus: &[[u64; 2]]) -> u64
@@ -72,7 +72,7 @@ pub fn enter(
     boxes: &[[i16; 4]],
     surplus: &mut [[u64; 2]],
 ) -> Run
-    requires { ⌜ Fair run × (t < setRows) × Both (now ns) (now at) s × Boxed (now blocks) (now boxes) × (length (now surplus) ≡ surplusRows) ⌝ }
+    requires { ⌜ Fair run × (t < setRows) × Both (now ns) (now at) s × (length (now blocks) ≡ setBlocks) × Boxed (now boxes) × (length (now surplus) ≡ surplusRows) ⌝ }
     ensures { λ r. ⌜ Fair r ⌝ }
 {
     let n = run.rows;
@@ -123,7 +123,7 @@ fn replace(
     boxes: &[[i16; 4]],
     surplus: &mut [[u64; 2]],
 ) -> Run
-    requires { ⌜ Fair run × Both (now ns) (now at) s × Boxed (now blocks) (now boxes) × (length (now surplus) ≡ surplusRows) ⌝ }
+    requires { ⌜ Fair run × Both (now ns) (now at) s × (length (now blocks) ≡ setBlocks) × Boxed (now boxes) × (length (now surplus) ≡ surplusRows) ⌝ }
     ensures { λ r. ⌜ Fair r ⌝ }
 {
     let e = run.first;
@@ -162,7 +162,7 @@ pub fn advance(
     boxes: &[[i16; 4]],
     surplus: &mut [[u64; 2]],
 ) -> Run
-    requires { ⌜ Fair run × Both (now ns) (now at) s × (length (now left) ≡ setRows) × Boxed (now blocks) (now boxes) × (length (now surplus) ≡ surplusRows) ⌝ }
+    requires { ⌜ Fair run × Both (now ns) (now at) s × Counted (now left) (now blocks) × Boxed (now boxes) × (length (now surplus) ≡ surplusRows) ⌝ }
     ensures { λ r. ⌜ Fair r ⌝ }
 {
     let e = run.first;

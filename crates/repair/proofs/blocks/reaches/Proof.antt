@@ -4,7 +4,7 @@ use Rattle.repair.proofs.blocks.reaches.Statement.{statement}
 use Rattle.repair.proofs.blocks.reaches.Tie as tie
 
 clearance-requires : tie.Need-clearance-requires
-clearance-requires c κs = let s = c .before .before .before in (s .pre .0, s .pre .2 .inner (s .args .b) (s .pre .1))
+clearance-requires c κs = let s = c .before .before .before in (s .pre .0, s .pre .3 .inner (s .args .b) (s .pre .1))
 
 pub reaches-spec : {M : Type 1} → statement M
 reaches-spec =

@@ -1,62 +1,26 @@
+-- `nearest::partners` meets its contract: the row is one of its range. Assumes nothing.
+use native.Mathlib.Omega.{arith}
 use borrow.Author.Needs.{needs}
 use Rattle.repair.proofs.nearest.partners.Statement.{statement}
 use Rattle.repair.proofs.nearest.partners.Tie as tie
-use Rattle.repair.proofs.nearest.partners.Reads as reads
-use Rattle.repair.proofs.nearest.partners.Lts as lts
-use Rattle.repair.proofs.nearest.none.Reads as none-reads
-use Rattle.repair.proofs.nearest.search.Reads as search-reads
 
--- src/nearest.rt:182:27
-mul-search : tie.Need-mul-search
-mul-search c = search needs
-
--- src/nearest.rt:182:27
-shared-slice-copy-out-search : tie.Need-shared-slice-copy-out-search
-shared-slice-copy-out-search c = search needs
-
--- src/nearest.rt:182:13
 search-requires : tie.Need-search-requires
-search-requires c κs = ?
+search-requires c κs = let s = c .before .before .before .before .before .before .before .before in (s .pre .0 .a .inside (s .args .t) (omega arith) (omega arith), s .pre .0 .b, s .pre .1, s .pre .2)
 
--- src/nearest.rt:182:13
-returns : tie.Need-returns
-returns c = search needs
-
--- src/nearest.rt:187:27
-mul-search-2 : tie.Need-mul-search-2
-mul-search-2 c = search needs
-
--- src/nearest.rt:187:27
-shared-slice-copy-out-search-2 : tie.Need-shared-slice-copy-out-search-2
-shared-slice-copy-out-search-2 c = search needs
-
--- src/nearest.rt:187:13
 search-requires-2 : tie.Need-search-requires-2
-search-requires-2 c κs = ?
-
--- src/nearest.rt:187:13
-returns-2 : tie.Need-returns-2
-returns-2 c = search needs
-
--- src/nearest.rt:191:14
-none-requires : tie.Need-none-requires
-none-requires c κs = search needs
-
--- src/nearest.rt:166:1
-returns-3 : tie.Need-returns-3
-returns-3 c = search needs
+search-requires-2 c κs = let s = c .before .before .before .before .before .before .before .before .before .before in (s .pre .0 .b .inside (s .args .t) (omega arith) (omega arith), s .pre .0 .a, s .pre .1, s .pre .2)
 
 pub partners-spec : {M : Type 1} → statement M
 partners-spec =
     tie.close
     (tie.spec
-    mul-search
-    shared-slice-copy-out-search
+    (λ c. search needs)
+    (λ c. search needs)
     search-requires
-    returns
-    mul-search-2
-    shared-slice-copy-out-search-2
+    (λ c. search needs)
+    (λ c. search needs)
+    (λ c. search needs)
     search-requires-2
-    returns-2
-    none-requires
-    returns-3)
+    (λ c. search needs)
+    (λ c κs. search needs)
+    (λ c. search needs))

@@ -8,65 +8,65 @@ use Rattle.repair.proofs.links.follow.Reads as follow-reads
 use Rattle.repair.proofs.run.is_next.Reads as is-next-reads
 use Rattle.repair.proofs.run.moved.Reads as moved-reads
 
--- src/run.rt:159:9
+-- src/run.rt:159:8
 is-next-requires : tie.Need-is-next-requires
 is-next-requires c κs = search needs
 
--- src/run.rt:160:9
-claim-requires : tie.Need-claim-requires
-claim-requires c κs = search needs
-
--- src/run.rt:160:9
-same-length : tie.Need-same-length
-same-length c = search needs
-
--- src/run.rt:160:9
-same-length-2 : tie.Need-same-length-2
-same-length-2 c = search needs
-
--- src/run.rt:160:9
-same-length-3 : tie.Need-same-length-3
-same-length-3 c = search needs
-
--- src/run.rt:160:9
-same-length-4 : tie.Need-same-length-4
-same-length-4 c = search needs
-
--- src/run.rt:160:9
-same-length-5 : tie.Need-same-length-5
-same-length-5 c = search needs
-
--- src/run.rt:160:9
-returns : tie.Need-returns
-returns c = search needs
-
--- src/run.rt:163:24
+-- src/run.rt:161:28
 add-moved : tie.Need-add-moved
 add-moved c = search needs
 
--- src/run.rt:163:9
+-- src/run.rt:161:13
 moved-requires : tie.Need-moved-requires
 moved-requires c κs = ?
 
--- src/run.rt:166:9
+-- src/run.rt:164:13
 mul-follow : tie.Need-mul-follow
 mul-follow c = search needs
 
--- src/run.rt:166:9
+-- src/run.rt:164:13
 shared-slice-copy-out-follow : tie.Need-shared-slice-copy-out-follow
 shared-slice-copy-out-follow c = ?
 
--- src/run.rt:167:9
+-- src/run.rt:165:13
 mul-follow-2 : tie.Need-mul-follow-2
 mul-follow-2 c = search needs
 
--- src/run.rt:167:9
+-- src/run.rt:165:13
 shared-slice-copy-out-follow-2 : tie.Need-shared-slice-copy-out-follow-2
 shared-slice-copy-out-follow-2 c = ?
 
--- src/run.rt:164:5
+-- src/run.rt:162:9
 follow-requires : tie.Need-follow-requires
-follow-requires c κs = ?
+follow-requires c κs = search needs
+
+-- src/run.rt:162:9
+same-length : tie.Need-same-length
+same-length c = search needs
+
+-- src/run.rt:162:9
+same-length-2 : tie.Need-same-length-2
+same-length-2 c = search needs
+
+-- src/run.rt:162:9
+same-length-3 : tie.Need-same-length-3
+same-length-3 c = search needs
+
+-- src/run.rt:162:9
+same-length-4 : tie.Need-same-length-4
+same-length-4 c = search needs
+
+-- src/run.rt:162:9
+same-length-5 : tie.Need-same-length-5
+same-length-5 c = search needs
+
+-- src/run.rt:162:9
+returns : tie.Need-returns
+returns c = search needs
+
+-- src/run.rt:177:5
+claim-requires : tie.Need-claim-requires
+claim-requires c κs = ?
 
 -- src/run.rt:141:1
 same-length-6 : tie.Need-same-length-6
@@ -97,13 +97,6 @@ turn-spec =
     tie.close
     (tie.spec
     is-next-requires
-    claim-requires
-    same-length
-    same-length-2
-    same-length-3
-    same-length-4
-    same-length-5
-    returns
     add-moved
     moved-requires
     mul-follow
@@ -111,6 +104,13 @@ turn-spec =
     mul-follow-2
     shared-slice-copy-out-follow-2
     follow-requires
+    same-length
+    same-length-2
+    same-length-3
+    same-length-4
+    same-length-5
+    returns
+    claim-requires
     same-length-6
     same-length-7
     same-length-8
