@@ -1,5 +1,5 @@
 -- What a repair works on.
-use Prim.Native.Nat.{ℕ, _+_, _<_, _≤_}
+use Prim.Native.Nat.{ℕ, _+_, _*_, _/_, _<_, _≤_}
 use mathlib.Core.Path.{_≡_}
 use mathlib.Core.List.{List, []}
 use lib.ListN.{length, getD}
@@ -8,7 +8,7 @@ use Rattle.matching.specs.declared.Range.{Range}
 use Rattle.matching.specs.declared.Spans.{Spans}
 use Rattle.matching.specs.Definitions.Columns.{Inside}
 use Rattle.matching.specs.Definitions.Rows.{xAt, yAt}
-use Rattle.matching.specs.Definitions.Sizes.{setRows, setBlocks, linkRows}
+use Rattle.matching.specs.Definitions.Sizes.{setRows, setBlocks, blockRows, linkRows}
 use Rattle.boxes.specs.Boxes.{Inner}
 use Rattle.repair.specs.declared.nearest.Two.{Two}
 use Rattle.repair.specs.declared.nearest.Found.{Found}
@@ -27,6 +27,11 @@ pub record Ranged (ns : List ℕ) (at : List (List ℤ)) (r : Range) : Type 0 wh
 pub record Both (ns : List ℕ) (at : List (List ℤ)) (s : Spans) : Type 0 where
   pub a : Ranged ns at (s .a)
   pub b : Ranged ns at (s .b)
+
+-- Each master's rows begin with a block.
+pub record Aligned (s : Spans) : Type 0 where
+  pub a : s .a .from ≡ s .a .from / blockRows * blockRows
+  pub b : s .b .from ≡ s .b .from / blockRows * blockRows
 
 -- Each block has a box, which is inside.
 pub record Boxed (boxes : List (List ℤ)) : Type 0 where

@@ -16,7 +16,7 @@ ghost use Rattle.matching.specs.Definitions.Sizes.{linkRows, setRows};
 ghost use Rattle.matching.specs.Definitions.Rows.{Fit};
 ghost use Rattle.repair.specs.Repair.{Links};
 ghost use Rattle.repair.specs.Sizes.{surplusRows};
-ghost use Rattle.repair.specs.State.{Both, Boxed, Counted, Fair};
+ghost use Rattle.repair.specs.State.{Both, Aligned, Boxed, Counted, Fair};
 use matching::Range;
 use matching::Spans;
 use matching::sizes::BLOCKS;
@@ -35,6 +35,36 @@ fn row_of(number: u32, r: Range, ns: &[u32]) -> usize
         k += 1;
     }
     ROWS
+}
+
+// The row of the edited node; ROWS where it is not there.
+fn edited(number: u32, second: bool, s: Spans, ns: &[u32]) -> usize
+    requires { ⌜ (s .a .to ≤ setRows) × (s .b .to ≤ setRows) × (length (now ns) ≡ setRows) ⌝ }
+    ensures { λ k. ⌜ k ≤ setRows ⌝ }
+{
+    if second {
+        return row_of(number, s.b, ns);
+    }
+    row_of(number, s.a, ns)
+}
+
+// The blocks, and what the rows have left, before the first link.
+fn prepare(
+    s: Spans,
+    ns: &[u32],
+    at: &[[i16; 2]],
+    cs: &[u32],
+    left: &mut [[u32; 2]],
+    blocks: &mut [[u32; 2]],
+    boxes: &mut [[i16; 4]],
+)
+    requires { ⌜ Both (now ns) (now at) s × Aligned s × (length (now cs) ≡ setRows) × Counted (now left) (now blocks) × Boxed (now boxes) ⌝ }
+    ensures { λ _. ⌜ Boxed (now (boxes .exit)) ⌝ }
+{
+    blocks::survey(s.a, ns, at, blocks, boxes);
+    blocks::survey(s.b, ns, at, blocks, boxes);
+    left::fill(s.a, cs, left);
+    left::fill(s.b, cs, left);
 }
 
 // The run begins: row k, if there is such a one, is the edited node's, which had nothing left.
@@ -83,19 +113,15 @@ pub fn repair(
     requires { ⌜ Fit (now ns) (now at) (now cs) s × Links (now old) (now from) n × Links (now new) (now to) 0 ⌝ }
     ensures { λ r. ⌜ (r ≤ suc linkRows) × Links (now (new .exit)) (now (to .exit)) 0 ⌝ }
 {
+    let mut left = [[0u32; 2]; ROWS];
     let mut blocks = [[0u32; 2]; BLOCKS];
     let mut boxes = [[0i16; 4]; BLOCKS];
-    blocks::survey(s.a, ns, at, &mut blocks, &mut boxes);
-    blocks::survey(s.b, ns, at, &mut blocks, &mut boxes);
-    let mut left = [[0u32; 2]; ROWS];
-    left::fill(s.a, cs, &mut left);
-    left::fill(s.b, cs, &mut left);
     let mut surplus = [[0u64; 2]; sizes::SURPLUS];
-    let r = if second { s.b } else { s.a };
-    let k = row_of(number, r, ns);
-    let run = start(k, s, ns, at, &mut left, &blocks, &boxes, &mut surplus);
+    prepare(s, ns, at, cs, &mut left, &mut blocks, &mut boxes);
+    let k = edited(number, second, s, ns);
+    let r = start(k, s, ns, at, &mut left, &blocks, &boxes, &mut surplus);
     run::all(
-        run,
+        r,
         s,
         ns,
         at,
