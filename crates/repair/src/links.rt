@@ -140,7 +140,7 @@ pub fn follow(
     release(q, j, m, places[0], s, ns, at, left, blocks, boxes, surplus)
 }
 
-// The earliest candidate is taken with what its rows have left.
+// The earliest candidate, if there is one, is taken with what its rows have left.
 pub fn claim(
     run: Run,
     s: Spans,
@@ -157,6 +157,9 @@ pub fn claim(
     requires { ⌜ Links (now new) (now to) 0 ⌝ }
     ensures { λ r. ⌜ Fair r ⌝ }
 {
+    if run.rows == 0 {
+        return run;
+    }
     let p = surplus::candidate(run, surplus);
     let t = pairs::owner(p);
     let w = pairs::partner(p);

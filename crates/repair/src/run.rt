@@ -137,7 +137,7 @@ fn is_next(run: Run, ns: &[u32], old: &[[u32; 4]], surplus: &[[u64; 2]]) -> bool
     pairs::is_before(old[k], surplus::candidate(run, surplus), ns)
 }
 
-// The next link.
+// The old links ahead that are as they were, and then the earlier of the next one and of the earliest candidate.
 fn turn(
     run: Run,
     s: Spans,
@@ -156,11 +156,12 @@ fn turn(
     requires { ⌜ Counted (now left) (now blocks) × Boxed (now boxes) × (length (now surplus) ≡ surplusRows) × Links (now new) (now to) 0 ⌝ }
     ensures { λ r. ⌜ Fair r ⌝ }
 {
-    if is_next(run, ns, old, surplus) {
-        let k = run.old;
-        let r = moved(run, k + 1, run.links);
+    let r = pass(run, ns, old, from, left, blocks, surplus, new, to);
+    if is_next(r, ns, old, surplus) {
+        let k = r.old;
+        let q = moved(r, k + 1, r.links);
         return links::follow(
-            r,
+            q,
             old[k],
             from[k],
             s,
@@ -175,7 +176,7 @@ fn turn(
         );
     }
     links::claim(
-        run,
+        r,
         s,
         ns,
         at,
@@ -218,13 +219,6 @@ pub fn all(
     let mut r = run;
     let mut k = 0;
     while k < sizes::TURNS {
-        r = pass(r, ns, old, from, left, blocks, surplus, new, to);
-        if is_over(r) {
-            return LINKS + 1;
-        }
-        if is_done(r, old.len()) {
-            return r.links;
-        }
         r = turn(
             r,
             s,
@@ -239,6 +233,12 @@ pub fn all(
             new,
             to,
         );
+        if is_over(r) {
+            return LINKS + 1;
+        }
+        if is_done(r, old.len()) {
+            return r.links;
+        }
         k += 1;
     }
     LINKS + 1
