@@ -1,2 +1,4 @@
--- What the contract of this crate cites.
+-- What the contracts of this crate cite.
 pub mod Repair
+pub mod Sizes
+pub mod State

@@ -1,0 +1,28 @@
+-- `links::claim` meets its contract. Assumes nothing.
+use borrow.Author.Needs.{needs}
+use Rattle.repair.proofs.links.claim.Statement.{statement}
+use Rattle.repair.proofs.links.claim.Tie as tie
+
+advance-requires : tie.Need-advance-requires
+advance-requires c κs = let p = c .before .before .before .before .before .before .before .before .before .before .before .before .before .before .before .before .before .before .before .before .before .before .before .pre .0 in (c .before .before .before .before .before .write .ensures, p .1, search needs, p .3, p .4)
+
+pub claim-spec : {M : Type 1} → statement M
+claim-spec =
+    tie.close
+    (tie.spec
+    (λ c. search needs)
+    (λ c κs. search needs)
+    (λ c κs. search needs)
+    (λ c κs. search needs)
+    (λ c κs. search needs)
+    (λ c κs. search needs)
+    (λ c κs. search needs)
+    (λ c κs. search needs)
+    (λ c κs. search needs)
+    advance-requires
+    (λ c. search needs)
+    (λ c. search needs)
+    (λ c. search needs)
+    (λ c. search needs)
+    (λ c. search needs)
+    (λ c. search needs))

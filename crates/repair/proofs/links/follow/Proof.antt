@@ -1,0 +1,34 @@
+-- `links::follow` meets its contract. Assumes nothing.
+use borrow.Author.Needs.{needs}
+use Rattle.repair.proofs.links.follow.Statement.{statement}
+use Rattle.repair.proofs.links.follow.Tie as tie
+
+release-requires : tie.Need-release-requires
+release-requires c κs = let p = c .before .before .before .before .before .before .before .before .before .before .before .before .before .before .before .pre .0 in (c .before .before .before .before .before .before .before .relink .ensures, p .1, search needs, p .3, p .4)
+
+release-requires-2 : tie.Need-release-requires-2
+release-requires-2 c κs = let p = c .before .before .before .before .before .before .before .before .before .before .before .before .before .before .before .before .before .before .before .before .before .pre .0 in (c .before .before .before .before .before .release .ensures, p .1, search needs, p .3, search needs)
+
+pub follow-spec : {M : Type 1} → statement M
+follow-spec =
+    tie.close
+    (tie.spec
+    (λ c. search needs)
+    (λ c. search needs)
+    (λ c κs. search needs)
+    (λ c. search needs)
+    (λ c. search needs)
+    (λ c κs. search needs)
+    (λ c. search needs)
+    (λ c. search needs)
+    (λ c κs. search needs)
+    (λ c. search needs)
+    release-requires
+    (λ c. search needs)
+    release-requires-2
+    (λ c. search needs)
+    (λ c. search needs)
+    (λ c. search needs)
+    (λ c. search needs)
+    (λ c. search needs)
+    (λ c. search needs))

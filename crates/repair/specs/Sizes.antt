@@ -1,0 +1,10 @@
+-- The sizes that a repair works with, beside matching's. src/sizes.rt has the same numbers.
+use Prim.Native.Nat.{ℕ}
+
+-- The rows with a surplus that are kept.
+abbrev pub surplusRows : ℕ
+surplusRows = 64
+
+-- The most that a search or a look costs at a time.
+abbrev pub costMost : ℕ
+costMost = 1024
