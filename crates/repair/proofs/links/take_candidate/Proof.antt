@@ -1,13 +1,13 @@
--- `links::claim` meets its contract. Assumes nothing.
+-- `links::take_candidate` meets its contract. Assumes nothing.
 use borrow.Author.Needs.{needs}
-use Rattle.repair.proofs.links.claim.Statement.{statement}
-use Rattle.repair.proofs.links.claim.Tie as tie
+use Rattle.repair.proofs.links.take_candidate.Statement.{statement}
+use Rattle.repair.proofs.links.take_candidate.Tie as tie
 
 advance-requires : tie.Need-advance-requires
 advance-requires c κs = let p = c .before .before .before .before .before .before .before .before .before .before .before .before .before .before .before .before .before .before .before .before .before .before .before .pre .0 in (c .before .before .before .before .before .write .ensures, p .1, search needs, p .3, p .4)
 
-pub claim-spec : {M : Type 1} → statement M
-claim-spec =
+pub take-candidate-spec : {M : Type 1} → statement M
+take-candidate-spec =
     tie.close
     (tie.spec
     (λ c. search needs)

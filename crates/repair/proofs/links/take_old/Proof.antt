@@ -1,7 +1,7 @@
--- `links::follow` meets its contract. Assumes nothing.
+-- `links::take_old` meets its contract. Assumes nothing.
 use borrow.Author.Needs.{needs}
-use Rattle.repair.proofs.links.follow.Statement.{statement}
-use Rattle.repair.proofs.links.follow.Tie as tie
+use Rattle.repair.proofs.links.take_old.Statement.{statement}
+use Rattle.repair.proofs.links.take_old.Tie as tie
 
 release-requires : tie.Need-release-requires
 release-requires c κs = let p = c .before .before .before .before .before .before .before .before .before .before .before .before .before .before .before .pre .0 in (c .before .before .before .before .before .before .before .relink .ensures, p .1, search needs, p .3, p .4)
@@ -9,8 +9,8 @@ release-requires c κs = let p = c .before .before .before .before .before .befo
 release-requires-2 : tie.Need-release-requires-2
 release-requires-2 c κs = let p = c .before .before .before .before .before .before .before .before .before .before .before .before .before .before .before .before .before .before .before .before .before .pre .0 in (c .before .before .before .before .before .release .ensures, p .1, search needs, p .3, search needs)
 
-pub follow-spec : {M : Type 1} → statement M
-follow-spec =
+pub take-old-spec : {M : Type 1} → statement M
+take-old-spec =
     tie.close
     (tie.spec
     (λ c. search needs)
