@@ -72,7 +72,8 @@ pub fn enter(
     boxes: &[[i16; 4]],
     surplus: &mut [[u64; 2]],
 ) -> Run
-    requires { ⌜ Fair run × (t < setRows) × Both (now ns) (now at) s × (length (now blocks) ≡ setBlocks) × Boxed (now boxes) × (length (now surplus) ≡ surplusRows) ⌝ }
+    requires { ⌜ Fair run × (t < setRows) × Both (now ns) (now at) s × (length (now blocks) ≡ setBlocks) × Boxed (now boxes)
+        × (length (now surplus) ≡ surplusRows) ⌝ }
     ensures { λ r. ⌜ Fair r ⌝ }
 {
     let n = run.rows;

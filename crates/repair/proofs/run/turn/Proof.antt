@@ -14,10 +14,10 @@ shared-slice-copy-out-take-old-2 : tie.Need-shared-slice-copy-out-take-old-2
 shared-slice-copy-out-take-old-2 c = omega (arith, c .before .before .before .is-next .ensures (c .before .before .if1 .taken), c .before .before .before .before .before .before .before .before .before .before .before .before .before .before .before .before .pre .0 .3)
 
 take-old-requires : tie.Need-take-old-requires
-take-old-requires c κs = let p = c .before .before .before .before .before .before .before .before .before .before .before .before .before .before .before .before .before .before .before .before .before .before .pre in ((c .before .before .before .before .before .before .before .moved .ensures, p .0 .1, omega (arith, c .before .before .before .before .before .before .before .before .before .before .before .before .before .before .before .copy-links .kept, p .1), p .1 .1, p .1 .2), omega (arith, c .before .before .before .before .before .before .before .before .before .before .before .before .before .before .before .copy-links .kept, p .1))
+take-old-requires c κs = let p = c .before .before .before .before .before .before .before .before .before .before .before .before .before .before .before .before .before .before .before .before .before .before .pre in ((c .before .before .before .before .before .before .before .moved .ensures, p .0 .1, omega (arith, c .before .before .before .before .before .before .before .before .before .before .before .before .before .before .before), p .1 .1, p .1 .2), omega (arith, c .before .before .before .before .before .before .before .before .before .before .before .before .before .before .before))
 
 take-candidate-requires : tie.Need-take-candidate-requires
-take-candidate-requires c κs = let p = c .before .before .before .before .before .before .before .before .before .before .before .before .before .before .before .before .before .before .before .pre in ((c .before .before .before .before .before .before .before .before .before .before .before .before .copy-links .ensures, p .0 .1, omega (arith, c .before .before .before .before .before .before .before .before .before .before .before .before .copy-links .kept, p .1), p .1 .1, p .1 .2), omega (arith, c .before .before .before .before .before .before .before .before .before .before .before .before .copy-links .kept, p .1))
+take-candidate-requires c κs = let p = c .before .before .before .before .before .before .before .before .before .before .before .before .before .before .before .before .before .before .before .pre in ((c .before .before .before .before .before .before .before .before .before .before .before .before .copy-links .ensures, p .0 .1, omega (arith, c .before .before .before .before .before .before .before .before .before .before .before .before), p .1 .1, p .1 .2), omega (arith, c .before .before .before .before .before .before .before .before .before .before .before .before))
 
 pub turn-spec : {M : Type 1} → statement M
 turn-spec =
