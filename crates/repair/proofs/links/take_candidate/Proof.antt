@@ -4,7 +4,11 @@ use Rattle.repair.proofs.links.take_candidate.Statement.{statement}
 use Rattle.repair.proofs.links.take_candidate.Tie as tie
 
 advance-requires : tie.Need-advance-requires
-advance-requires c κs = let p = c .before .before .before .before .before .before .before .before .before .before .before .before .before .before .before .before .before .before .before .before .before .before .before .pre .0 in (c .before .before .before .before .before .write .ensures, p .1, search needs, p .3, p .4)
+advance-requires c κs =
+    let w = c .before .before .before .before .before in
+    let t = w .before .before .before .before .before .before .before .before in
+    let p = t .before .before .before .before .before .before .before .before .before .before .pre .0 in
+    (w .write .ensures, p .1, search needs, p .3, p .4)
 
 pub take-candidate-spec : {M : Type 1} → statement M
 take-candidate-spec =

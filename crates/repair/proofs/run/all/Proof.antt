@@ -11,13 +11,16 @@ use Rattle.repair.proofs.run.all.Statement.{statement}
 use Rattle.repair.proofs.run.all.Tie as tie
 
 abbrev Inv-loop : tie.InvT-loop
-Inv-loop s ns at old from left₀ blocks₀ boxes surplus₀ new₀ to₀ r₀ k₀ left blocks surplus new to r k = Fair r × Counted left blocks × (length surplus ≡ surplusRows) × Links new to 0
+Inv-loop s ns at old from left₀ blocks₀ boxes surplus₀ new₀ to₀ r₀ k₀ left blocks surplus new to r k =
+    Fair r × Counted left blocks × (length surplus ≡ surplusRows) × Links new to 0
 
 abbrev μ-loop : tie.MeasureT-loop
 μ-loop s ns at old from left₀ blocks₀ boxes surplus₀ new₀ to₀ r₀ k₀ left blocks surplus new to r k = turns - k
 
 loop-again : tie.Need-loop-again Inv-loop μ-loop
-loop-again c = let t = c .before .before .before .before .before .before .before .before .before in (t .turn .ensures, omega (arith, t), omega (arith, t), omega (arith, t))
+loop-again c =
+    let t = c .before .before .before .before .before .before .before .before .before in
+    (t .turn .ensures, omega (arith, t), omega (arith, t), omega (arith, t))
 
 pub all-spec : {M : Type 1} → statement M
 all-spec =

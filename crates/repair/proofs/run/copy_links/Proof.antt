@@ -8,7 +8,9 @@ use Rattle.repair.proofs.run.copy_links.Statement.{statement}
 use Rattle.repair.proofs.run.copy_links.Tie as tie
 
 abbrev Inv-loop : tie.InvT-loop
-Inv-loop run ns old from left₀ blocks₀ surplus new₀ to₀ p k₀ n₀ left blocks new to k n = (k ≤ linkRows) × (n ≤ linkRows) × (length left ≡ length left₀) × (length blocks ≡ length blocks₀) × (length new ≡ length new₀) × (length to ≡ length to₀)
+Inv-loop run ns old from left₀ blocks₀ surplus new₀ to₀ p k₀ n₀ left blocks new to k n =
+    (k ≤ linkRows) × (n ≤ linkRows) × (length left ≡ length left₀) × (length blocks ≡ length blocks₀) × (length new ≡ length new₀)
+    × (length to ≡ length to₀)
 
 abbrev μ-loop : tie.MeasureT-loop
 μ-loop run ns old from left₀ blocks₀ surplus new₀ to₀ p k₀ n₀ left blocks new to k n = length old - k

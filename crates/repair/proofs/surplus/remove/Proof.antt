@@ -6,7 +6,9 @@ use Rattle.repair.proofs.surplus.remove.Statement.{statement}
 use Rattle.repair.proofs.surplus.remove.Tie as tie
 
 find-earliest-requires : tie.Need-find-earliest-requires
-find-earliest-requires c κs = let p = c .before .before .before .before .pre in (record { old = p .0 .old; links = p .0 .links; rows = omega arith; first = p .0 .first }, p .1, simp length-set (p .2))
+find-earliest-requires c κs =
+    let p = c .before .before .before .before .pre in
+    (record { old = p .0 .old; links = p .0 .links; rows = omega arith; first = p .0 .first }, p .1, simp length-set (p .2))
 
 pub remove-spec : {M : Type 1} → statement M
 remove-spec =
