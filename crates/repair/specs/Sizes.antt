@@ -8,3 +8,7 @@ surplusRows = 64
 -- The most that a search or a look costs at a time.
 abbrev pub costMost : ℕ
 costMost = 1024
+
+-- The turns of a repair.
+abbrev pub turns : ℕ
+turns = 8192

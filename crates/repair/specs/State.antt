@@ -44,13 +44,13 @@ pub record Counted (left blocks : List (List ℕ)) : Type 0 where
   pub size : length blocks ≡ setBlocks
 
 -- The two nearest are rows of the set.
-pub record Near (s : Two) : Type 0 where
+pub record Nearest (s : Two) : Type 0 where
   pub first : s .first .row < setRows
   pub second : s .second .row < setRows
 
--- So are those of a search, which looks through each block once, or the first one twice.
+-- So are those of a search; it looks through a first block, and then through no more than there are.
 pub record Searched (f : Found) : Type 0 where
-  pub near : Near (f .two)
+  pub near : Nearest (f .two)
   pub scans : f .scans ≤ setBlocks + 1
 
 -- The run is no further than there is room for.

@@ -64,17 +64,13 @@ pub fn survey(
     }
 }
 
-// 1 for nothing, and else 0.
-fn is_none(x: u32) -> u32 {
-    if x == 0 { 1 } else { 0 }
-}
-
-// Row k has x left: where that is nothing, its bit is cleared. A branch would often be predicted wrongly.
-pub fn note(k: usize, x: u32, blocks: &mut [[u32; 2]])
+// Row k has x left: where that is nothing, its bit is cleared. A jump would often be predicted wrongly.
+pub fn clear(k: usize, x: u32, blocks: &mut [[u32; 2]])
     requires { ⌜ (k < setRows) × (length (now blocks) ≡ setBlocks) ⌝ }
 {
     let b = k / BLOCK;
-    let bit = is_none(x) << ((k % BLOCK) as u32);
+    let none = if x == 0 { 1u32 } else { 0 };
+    let bit = none << ((k % BLOCK) as u32);
     blocks[b][0] = blocks[b][0] & !bit;
 }
 

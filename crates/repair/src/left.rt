@@ -24,29 +24,22 @@ fn less(x: u32, m: u32) -> u32 {
     if x < m { 0 } else { x - m }
 }
 
-// Row k had y left and has x.
-fn set(k: usize, y: u32, x: u32, left: &mut [[u32; 2]], blocks: &mut [[u32; 2]])
-    requires { ⌜ (k < setRows) × Counted (now left) (now blocks) ⌝ }
-{
-    left[k] = [y, x];
-    blocks::note(k, x, blocks);
-}
-
 // Row k loses m of what it has left.
 fn spend(k: usize, m: u32, left: &mut [[u32; 2]], blocks: &mut [[u32; 2]])
     requires { ⌜ (k < setRows) × Counted (now left) (now blocks) ⌝ }
 {
-    let y = left[k][0];
     let x = less(left[k][1], m);
-    set(k, y, x, left, blocks);
+    left[k] = [left[k][0], x];
+    blocks::clear(k, x, blocks);
 }
 
-// Row k loses m of what it had left and has left.
+// Row k, which has as much left as it had, loses m of both.
 fn lose(k: usize, m: u32, left: &mut [[u32; 2]], blocks: &mut [[u32; 2]])
     requires { ⌜ (k < setRows) × Counted (now left) (now blocks) ⌝ }
 {
     let x = less(left[k][1], m);
-    set(k, x, x, left, blocks);
+    left[k] = [x, x];
+    blocks::clear(k, x, blocks);
 }
 
 // Takes of two rows the lesser of what they have left, and gives it.

@@ -114,7 +114,7 @@ fn release(
 }
 
 // An old link whose nodes are said to stand in two places: it is taken with what they have left, and was taken with its amount.
-pub fn follow(
+pub fn take_old(
     run: Run,
     link: [u32; 4],
     places: [u16; 2],
@@ -141,7 +141,7 @@ pub fn follow(
 }
 
 // The earliest candidate, if there is one, is taken with what its rows have left.
-pub fn claim(
+pub fn take_candidate(
     run: Run,
     s: Spans,
     ns: &[u32],

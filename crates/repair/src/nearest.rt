@@ -11,7 +11,7 @@ ghost use lib.ListN.{length};
 ghost use Rattle.matching.specs.Definitions.Columns.{Inside};
 ghost use Rattle.matching.specs.Definitions.Rows.{across, upward};
 ghost use Rattle.matching.specs.Definitions.Sizes.{setRows, setBlocks};
-ghost use Rattle.repair.specs.State.{Ranged, Both, Boxed, Near as IsNear, Searched};
+ghost use Rattle.repair.specs.State.{Ranged, Both, Boxed, Nearest, Searched};
 
 // A row, and its distance and number as one key: the lesser key comes first.
 pub struct Near {
@@ -33,7 +33,7 @@ pub struct Found {
 
 // No row yet.
 fn none() -> Two
-    ensures { λ r. ⌜ IsNear r ⌝ }
+    ensures { λ r. ⌜ Nearest r ⌝ }
 {
     let n = Near {
         key: sizes::NONE,
@@ -47,8 +47,8 @@ fn none() -> Two
 
 // The two nearest of s and n.
 fn closer(s: Two, n: Near) -> Two
-    requires { ⌜ IsNear s × (n .row < setRows) ⌝ }
-    ensures { λ r. ⌜ IsNear r ⌝ }
+    requires { ⌜ Nearest s × (n .row < setRows) ⌝ }
+    ensures { λ r. ⌜ Nearest r ⌝ }
 {
     if n.key >= s.second.key {
         return s;
@@ -68,8 +68,8 @@ fn closer(s: Two, n: Near) -> Two
 
 // The two nearest to p of s and row k, if that is one of the range.
 fn compare(p: [i16; 2], k: usize, r: Range, s: Two, ns: &[u32], at: &[[i16; 2]]) -> Two
-    requires { ⌜ Inside (across p) (upward p) × Ranged (now ns) (now at) r × IsNear s ⌝ }
-    ensures { λ r. ⌜ IsNear r ⌝ }
+    requires { ⌜ Inside (across p) (upward p) × Ranged (now ns) (now at) r × Nearest s ⌝ }
+    ensures { λ r. ⌜ Nearest r ⌝ }
 {
     if k < r.from {
         return s;
@@ -94,8 +94,8 @@ fn scan(
     at: &[[i16; 2]],
     blocks: &[[u32; 2]],
 ) -> Two
-    requires { ⌜ Inside (across p) (upward p) × Ranged (now ns) (now at) r × IsNear s × (b < setBlocks) × (length (now blocks) ≡ setBlocks) ⌝ }
-    ensures { λ r. ⌜ IsNear r ⌝ }
+    requires { ⌜ Inside (across p) (upward p) × Ranged (now ns) (now at) r × Nearest s × (b < setBlocks) × (length (now blocks) ≡ setBlocks) ⌝ }
+    ensures { λ r. ⌜ Nearest r ⌝ }
 {
     let mut best = s;
     let mut m = blocks[b][0];

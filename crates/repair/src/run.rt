@@ -54,7 +54,7 @@ fn repeat(
 }
 
 // Writes old link k as link n, if it comes before candidate p and is as it was; gives how many links are written.
-fn copy(
+fn copy_link(
     k: usize,
     n: usize,
     p: u64,
@@ -96,7 +96,7 @@ fn moved(run: Run, k: usize, n: usize) -> Run
 }
 
 // Copies old links as long as they are as they were and come before the earliest candidate.
-fn pass(
+fn copy_links(
     run: Run,
     ns: &[u32],
     old: &[[u32; 4]],
@@ -115,7 +115,7 @@ fn pass(
     let mut k = run.old;
     let mut n = run.links;
     while k < old.len() {
-        let m = copy(k, n, p, ns, old, from, left, blocks, new, to);
+        let m = copy_link(k, n, p, ns, old, from, left, blocks, new, to);
         if m == n {
             return moved(run, k, n);
         }
@@ -156,11 +156,11 @@ fn turn(
     requires { ⌜ Counted (now left) (now blocks) × Boxed (now boxes) × (length (now surplus) ≡ surplusRows) × Links (now new) (now to) 0 ⌝ }
     ensures { λ r. ⌜ Fair r ⌝ }
 {
-    let r = pass(run, ns, old, from, left, blocks, surplus, new, to);
+    let r = copy_links(run, ns, old, from, left, blocks, surplus, new, to);
     if is_next(r, ns, old, surplus) {
         let k = r.old;
         let q = moved(r, k + 1, r.links);
-        return links::follow(
+        return links::take_old(
             q,
             old[k],
             from[k],
@@ -175,18 +175,7 @@ fn turn(
             to,
         );
     }
-    links::claim(
-        r,
-        s,
-        ns,
-        at,
-        left,
-        blocks,
-        boxes,
-        surplus,
-        new,
-        to,
-    )
+    links::take_candidate(r, s, ns, at, left, blocks, boxes, surplus, new, to)
 }
 
 // The run has no old link of n ahead, and no row has a surplus.

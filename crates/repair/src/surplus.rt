@@ -51,7 +51,7 @@ fn earliest(n: usize, ns: &[u32], surplus: &[[u64; 2]]) -> usize
 }
 
 // The candidates have changed: the earliest is looked for.
-fn update(run: Run, ns: &[u32], surplus: &[[u64; 2]]) -> Run
+fn find_earliest(run: Run, ns: &[u32], surplus: &[[u64; 2]]) -> Run
     requires { ⌜ Fair run × (length (now ns) ≡ setRows) × (length (now surplus) ≡ surplusRows) ⌝ }
     ensures { λ r. ⌜ Fair r ⌝ }
 {
@@ -72,7 +72,8 @@ pub fn enter(
     boxes: &[[i16; 4]],
     surplus: &mut [[u64; 2]],
 ) -> Run
-    requires { ⌜ Fair run × (t < setRows) × Both (now ns) (now at) s × (length (now blocks) ≡ setBlocks) × Boxed (now boxes) × (length (now surplus) ≡ surplusRows) ⌝ }
+    requires { ⌜ Fair run × (t < setRows) × Both (now ns) (now at) s × (length (now blocks) ≡ setBlocks) × Boxed (now boxes)
+        × (length (now surplus) ≡ surplusRows) ⌝ }
     ensures { λ r. ⌜ Fair r ⌝ }
 {
     let n = run.rows;
@@ -109,7 +110,7 @@ fn remove(run: Run, ns: &[u32], surplus: &mut [[u64; 2]]) -> Run
     surplus[e] = surplus[n - 1];
     let mut r = run;
     r.rows = n - 1;
-    update(r, ns, surplus)
+    find_earliest(r, ns, surplus)
 }
 
 // Row t, whose candidate p was the earliest, looks for another candidate and another runner-up.
@@ -136,7 +137,7 @@ fn replace(
         return remove(r, ns, surplus);
     }
     surplus[e] = [q, pairs::pair(t, two.second)];
-    update(r, ns, surplus)
+    find_earliest(r, ns, surplus)
 }
 
 // Whether the other row of pair p has something left.
@@ -173,7 +174,7 @@ pub fn advance(
     let q = surplus[e][1];
     if is_open(q, left) {
         surplus[e] = [q, sizes::NONE];
-        return update(run, ns, surplus);
+        return find_earliest(run, ns, surplus);
     }
     replace(run, p, s, ns, at, blocks, boxes, surplus)
 }

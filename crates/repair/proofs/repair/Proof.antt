@@ -1,4 +1,4 @@
--- `repair` meets its contract. Assumes nothing.
+-- `repair` meets its contract: its masters' rows are those of the set, and there is room for all that it works on. Assumes nothing.
 use Prim.Native.Nat.{ℕ}
 use mathlib.Core.Path.{_≡_, sym}
 use mathlib.Core.List.{List, [], _∷_}
@@ -15,7 +15,7 @@ use borrow.Author.Needs.{needs}
 use Rattle.repair.proofs.repair.Statement.{statement}
 use Rattle.repair.proofs.repair.Tie as tie
 
--- The rows of both masters.
+-- What the parts ask of the set's rows.
 both : {ns : List ℕ} {at : List (List ℤ)} {cs : List ℕ} {s : Spans} → Fit ns at cs s → Both ns at s
 both f = record {
   a = record {
@@ -42,22 +42,43 @@ abbrev zeros : List ℤ
 zeros = pos 0 ∷ pos 0 ∷ pos 0 ∷ pos 0 ∷ []
 
 boxed : Boxed (replicate setBlocks zeros)
-boxed = record { size = length-replicate setBlocks zeros; inner = λ b l. rw (getD-replicate setBlocks b zeros [] l) ((omega arith, omega arith), (omega arith, omega arith)) }
+boxed = record {
+  size = length-replicate setBlocks zeros;
+  inner = λ b l. rw (getD-replicate setBlocks b zeros [] l) ((omega arith, omega arith), (omega arith, omega arith));
+}
 
 prepare-requires : tie.Need-prepare-requires
 prepare-requires c κs = let f = c .before .before .before .before .before .pre .0 in (both f, aligned f, f .capacities, search needs, boxed)
 
 start-requires : tie.Need-start-requires
-start-requires c κs = let f = c .before .before .before .before .before .before .before .before .before .before .before .before .before .before .pre .0 in (both f, search needs, c .before .before .before .before .before .before .before .before .prepare .ensures, search needs)
+start-requires c κs =
+    let r = c .before .before .before .before .before .before .before .before in
+    let f = r .before .before .before .before .before .before .pre .0 in
+    (both f, search needs, r .prepare .ensures, search needs)
 
 slice-aggregate-all : tie.Need-slice-aggregate-all
-slice-aggregate-all c = sym (length-take-le _ _ (omega (arith, c .before .before .before .before .before .before .before .before .before .before .before .before .before .before .before .before .before .before .pre .1)))
+slice-aggregate-all c =
+    let s = c .before .before .before .before .before .before .before .before .before .before .before .before .before .before .before .before .before .before in
+    sym (length-take-le _ _ (omega (arith, s .pre .1)))
 
 all-requires : tie.Need-all-requires
-all-requires c κs = let s = c .before .before .before .before .before .before .before .before .before .before .before .before .before .before .before .before .before .before .before .before .before .before .before .before in let p = s .pre in let e = length-take-le (s .args .n) (s .args .old .now) (omega (arith, p .1)) in ((c .before .before .before .before .before .before .before .before .before .start .ensures, both (p .0), omega (arith, e, p .1), omega (arith, e, p .1)), (omega (arith, c .before .before .before .before .before .before .before .before .before .start .kept, c .before .before .before .before .before .before .before .before .before .before .before .before .before .before .before .before .before .before .prepare .kept), c .before .before .before .before .before .before .before .before .before .before .before .before .before .before .before .before .before .before .prepare .ensures, search needs, p .2))
+all-requires c κs =
+    let t = c .before .before .before .before .before .before .before .before .before in
+    let r = t .before .before .before .before .before .before .before .before .before in
+    let s = r .before .before .before .before .before .before in
+    let p = s .pre in
+    let e = length-take-le (s .args .n) (s .args .old .now) (omega (arith, p .1)) in
+    let k = t .start .kept in (
+      (t .start .ensures, both (p .0), omega (arith, e, p .1), omega (arith, e, p .1)),
+      (omega (arith, k, r .prepare .kept), r .prepare .ensures, omega (arith, k), p .2),
+    )
 
 returns : tie.Need-returns
-returns c = let p = c .before .before .before .before .before .before .before .before .before .before .before .before .before .before .before .before .before .before .before .before .before .before .before .before .before .before .before .before .before .before .pre in (c .before .before .before .before .before .all .ensures, omega (arith, c .before .before .before .before .before .all .kept, p .2))
+returns c =
+    let a = c .before .before .before .before .before in
+    let t = a .before .before .before .before .before .before .before .before .before .before in
+    let p = t .before .before .before .before .before .before .before .before .before .before .before .before .before .before .before .pre in
+    (a .all .ensures, omega (arith, a .all .kept, p .2))
 
 pub repair-spec : {M : Type 1} → statement M
 repair-spec =

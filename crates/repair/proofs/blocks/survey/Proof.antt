@@ -32,10 +32,16 @@ loop-holds : tie.Need-loop-holds Inv-loop μ-loop
 loop-holds c = (omega arith, omega arith, omega arith, c .before .before .pre .3)
 
 around-requires : tie.Need-around-requires Inv-loop μ-loop
-around-requires c κs = (omega arith, omega arith, λ k l m. c .before .before .before .before .before .before .before .pre .0 .inside k (omega arith) (omega arith))
+around-requires c κs =
+    (omega arith, omega arith, λ k l m. c .before .before .before .before .before .before .before .pre .0 .inside k (omega arith) (omega arith))
 
 loop-again : tie.Need-loop-again Inv-loop μ-loop
-loop-again c = (omega arith, omega arith, simp length-set (omega arith), boxed-set _ _ _ (c .before .before .before .before .before .loop .inv .3) (omega arith) (c .around .ensures .inner))
+loop-again c = (
+  omega arith,
+  omega arith,
+  simp length-set (omega arith),
+  boxed-set _ _ _ (c .before .before .before .before .before .loop .inv .3) (omega arith) (c .around .ensures .inner),
+)
 
 returns : tie.Need-returns Inv-loop μ-loop
 returns c = c .before .before .loop .inv .3

@@ -5,10 +5,14 @@ use Rattle.repair.proofs.nearest.partners.Statement.{statement}
 use Rattle.repair.proofs.nearest.partners.Tie as tie
 
 search-requires : tie.Need-search-requires
-search-requires c κs = let s = c .before .before .before .before .before .before .before .before in (s .pre .0 .a .inside (s .args .t) (omega arith) (omega arith), s .pre .0 .b, s .pre .1, s .pre .2)
+search-requires c κs =
+    let s = c .before .before .before .before .before .before .before .before in
+    (s .pre .0 .a .inside (s .args .t) (omega arith) (omega arith), s .pre .0 .b, s .pre .1, s .pre .2)
 
 search-requires-2 : tie.Need-search-requires-2
-search-requires-2 c κs = let s = c .before .before .before .before .before .before .before .before .before .before in (s .pre .0 .b .inside (s .args .t) (omega arith) (omega arith), s .pre .0 .a, s .pre .1, s .pre .2)
+search-requires-2 c κs =
+    let s = c .before .before .before .before .before .before .before .before .before .before in
+    (s .pre .0 .b .inside (s .args .t) (omega arith) (omega arith), s .pre .0 .a, s .pre .1, s .pre .2)
 
 pub partners-spec : {M : Type 1} → statement M
 partners-spec =

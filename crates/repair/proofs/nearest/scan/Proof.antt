@@ -2,14 +2,14 @@
 use Prim.Native.Nat.{_-_}
 use lib.Bits.{and-le-r}
 use lib.Count.{trailing-le}
-use Rattle.repair.specs.State.{Near}
+use Rattle.repair.specs.State.{Nearest}
 use native.Mathlib.Omega.{arith}
 use borrow.Author.Needs.{needs}
 use Rattle.repair.proofs.nearest.scan.Statement.{statement}
 use Rattle.repair.proofs.nearest.scan.Tie as tie
 
 abbrev Inv-loop : tie.InvT-loop
-Inv-loop p b r ns at blocks best₀ m₀ best m = Near best
+Inv-loop p b r ns at blocks best₀ m₀ best m = Nearest best
 
 abbrev μ-loop : tie.MeasureT-loop
 μ-loop p b r ns at blocks best₀ m₀ best m = m

@@ -17,7 +17,9 @@ loop-holds : tie.Need-loop-holds Inv-loop μ-loop
 loop-holds c = (omega arith, omega arith, record { near = c .before .scan .ensures; scans = omega arith })
 
 visit-requires : tie.Need-visit-requires Inv-loop μ-loop
-visit-requires c κs = let p = c .before .before .before .before .before .before .before .pre in let l = c .before .before .loop .inv in ((p .0, p .1, l .2, omega arith, omega arith), (p .2, p .3))
+visit-requires c κs =
+    let p = c .before .before .before .before .before .before .before .pre in
+    let l = c .before .before .loop .inv in ((p .0, p .1, l .2, omega arith, omega arith), (p .2, p .3))
 
 loop-again : tie.Need-loop-again Inv-loop μ-loop
 loop-again c = (omega arith, omega arith, c .visit .ensures .0)

@@ -3,7 +3,7 @@ use Prim.Native.Nat.{_-_}
 use mathlib.Core.Path.{_≡_}
 use lib.ListN.{length}
 use Rattle.repair.specs.Repair.{Links}
-use Rattle.repair.specs.Sizes.{surplusRows}
+use Rattle.repair.specs.Sizes.{surplusRows, turns}
 use Rattle.repair.specs.State.{Counted, Fair}
 use native.Mathlib.Omega.{arith}
 use borrow.Author.Needs.{needs}
@@ -11,13 +11,16 @@ use Rattle.repair.proofs.run.all.Statement.{statement}
 use Rattle.repair.proofs.run.all.Tie as tie
 
 abbrev Inv-loop : tie.InvT-loop
-Inv-loop s ns at old from left₀ blocks₀ boxes surplus₀ new₀ to₀ r₀ k₀ left blocks surplus new to r k = Fair r × Counted left blocks × (length surplus ≡ surplusRows) × Links new to 0
+Inv-loop s ns at old from left₀ blocks₀ boxes surplus₀ new₀ to₀ r₀ k₀ left blocks surplus new to r k =
+    Fair r × Counted left blocks × (length surplus ≡ surplusRows) × Links new to 0
 
 abbrev μ-loop : tie.MeasureT-loop
-μ-loop s ns at old from left₀ blocks₀ boxes surplus₀ new₀ to₀ r₀ k₀ left blocks surplus new to r k = 8192 - k
+μ-loop s ns at old from left₀ blocks₀ boxes surplus₀ new₀ to₀ r₀ k₀ left blocks surplus new to r k = turns - k
 
 loop-again : tie.Need-loop-again Inv-loop μ-loop
-loop-again c = (c .before .before .before .before .before .before .before .before .before .turn .ensures, omega (arith, c .before .before .before .before .before .before .before .before .before .turn .kept, c .before .before .before .before .before .before .before .before .before .before .before .before .before .before .before .before .loop .inv), omega (arith, c .before .before .before .before .before .before .before .before .before .turn .kept, c .before .before .before .before .before .before .before .before .before .before .before .before .before .before .before .before .loop .inv), omega (arith, c .before .before .before .before .before .before .before .before .before .turn .kept, c .before .before .before .before .before .before .before .before .before .before .before .before .before .before .before .before .loop .inv))
+loop-again c =
+    let t = c .before .before .before .before .before .before .before .before .before in
+    (t .turn .ensures, omega (arith, t), omega (arith, t), omega (arith, t))
 
 pub all-spec : {M : Type 1} → statement M
 all-spec =
@@ -29,18 +32,18 @@ all-spec =
     (λ c κs. search needs)
     (λ c κs. search needs)
     (λ c. search needs)
-    (λ c. omega (arith, c .before .before .before .before .before .before .before .turn .kept, c .before .before .before .before .before .before .before .before .before .before .before .before .before .before .loop .inv, c .before .before .before .before .before .before .before .before .before .before .before .before .before .before .before .before .pre))
-    (λ c. omega (arith, c .before .before .before .before .before .before .before .turn .kept, c .before .before .before .before .before .before .before .before .before .before .before .before .before .before .loop .inv, c .before .before .before .before .before .before .before .before .before .before .before .before .before .before .before .before .pre))
-    (λ c. omega (arith, c .before .before .before .before .before .before .before .turn .kept, c .before .before .before .before .before .before .before .before .before .before .before .before .before .before .loop .inv, c .before .before .before .before .before .before .before .before .before .before .before .before .before .before .before .before .pre))
-    (λ c. omega (arith, c .before .before .before .before .before .before .before .turn .kept, c .before .before .before .before .before .before .before .before .before .before .before .before .before .before .loop .inv, c .before .before .before .before .before .before .before .before .before .before .before .before .before .before .before .before .pre))
-    (λ c. omega (arith, c .before .before .before .before .before .before .before .turn .kept, c .before .before .before .before .before .before .before .before .before .before .before .before .before .before .loop .inv, c .before .before .before .before .before .before .before .before .before .before .before .before .before .before .before .before .pre))
+    (λ c. omega (arith, c .before .before .before .before .before .before .before))
+    (λ c. omega (arith, c .before .before .before .before .before .before .before))
+    (λ c. omega (arith, c .before .before .before .before .before .before .before))
+    (λ c. omega (arith, c .before .before .before .before .before .before .before))
+    (λ c. omega (arith, c .before .before .before .before .before .before .before))
     (λ c. search needs)
     (λ c κs. search needs)
-    (λ c. omega (arith, c .before .before .before .before .before .before .before .before .before .turn .kept, c .before .before .before .before .before .before .before .before .before .before .before .before .before .before .before .before .loop .inv, c .before .before .before .before .before .before .before .before .before .before .before .before .before .before .before .before .before .before .pre))
-    (λ c. omega (arith, c .before .before .before .before .before .before .before .before .before .turn .kept, c .before .before .before .before .before .before .before .before .before .before .before .before .before .before .before .before .loop .inv, c .before .before .before .before .before .before .before .before .before .before .before .before .before .before .before .before .before .before .pre))
-    (λ c. omega (arith, c .before .before .before .before .before .before .before .before .before .turn .kept, c .before .before .before .before .before .before .before .before .before .before .before .before .before .before .before .before .loop .inv, c .before .before .before .before .before .before .before .before .before .before .before .before .before .before .before .before .before .before .pre))
-    (λ c. omega (arith, c .before .before .before .before .before .before .before .before .before .turn .kept, c .before .before .before .before .before .before .before .before .before .before .before .before .before .before .before .before .loop .inv, c .before .before .before .before .before .before .before .before .before .before .before .before .before .before .before .before .before .before .pre))
-    (λ c. omega (arith, c .before .before .before .before .before .before .before .before .before .turn .kept, c .before .before .before .before .before .before .before .before .before .before .before .before .before .before .before .before .loop .inv, c .before .before .before .before .before .before .before .before .before .before .before .before .before .before .before .before .before .before .pre))
+    (λ c. omega (arith, c .before .before .before .before .before .before .before .before .before))
+    (λ c. omega (arith, c .before .before .before .before .before .before .before .before .before))
+    (λ c. omega (arith, c .before .before .before .before .before .before .before .before .before))
+    (λ c. omega (arith, c .before .before .before .before .before .before .before .before .before))
+    (λ c. omega (arith, c .before .before .before .before .before .before .before .before .before))
     (λ c. search needs)
     (λ c. search needs)
     (λ c. search needs)

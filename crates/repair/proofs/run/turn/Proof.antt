@@ -5,19 +5,30 @@ use Rattle.repair.proofs.run.turn.Statement.{statement}
 use Rattle.repair.proofs.run.turn.Tie as tie
 
 moved-requires : tie.Need-moved-requires
-moved-requires c κs = let f = c .before .before .before .before .before .before .before .pass .ensures in (f, omega (arith, c .before .is-next .ensures (c .if1 .taken), c .before .before .before .before .before .before .before .before .before .before .before .before .before .before .pre .0 .2), f .links)
+moved-requires c κs =
+    let t = c .before .before .before .before .before .before .before in
+    (t .copy-links .ensures, omega (arith, c .before .is-next .ensures (c .if1 .taken), t), t .copy-links .ensures .links)
 
-shared-slice-copy-out-follow : tie.Need-shared-slice-copy-out-follow
-shared-slice-copy-out-follow c = c .before .before .is-next .ensures (c .before .if1 .taken)
+shared-slice-copy-out-take-old : tie.Need-shared-slice-copy-out-take-old
+shared-slice-copy-out-take-old c = c .before .before .is-next .ensures (c .before .if1 .taken)
 
-shared-slice-copy-out-follow-2 : tie.Need-shared-slice-copy-out-follow-2
-shared-slice-copy-out-follow-2 c = omega (arith, c .before .before .before .is-next .ensures (c .before .before .if1 .taken), c .before .before .before .before .before .before .before .before .before .before .before .before .before .before .before .before .pre .0 .3)
+shared-slice-copy-out-take-old-2 : tie.Need-shared-slice-copy-out-take-old-2
+shared-slice-copy-out-take-old-2 c =
+    let t = c .before .before .before .before .before .before .before .before .before in
+    omega (arith, c .before .before .before .is-next .ensures (c .before .before .if1 .taken), t)
 
-follow-requires : tie.Need-follow-requires
-follow-requires c κs = let p = c .before .before .before .before .before .before .before .before .before .before .before .before .before .before .before .before .before .before .before .before .before .before .pre in ((c .before .before .before .before .before .before .before .moved .ensures, p .0 .1, omega (arith, c .before .before .before .before .before .before .before .before .before .before .before .before .before .before .before .pass .kept, p .1), p .1 .1, p .1 .2), omega (arith, c .before .before .before .before .before .before .before .before .before .before .before .before .before .before .before .pass .kept, p .1))
+take-old-requires : tie.Need-take-old-requires
+take-old-requires c κs =
+    let m = c .before .before .before .before .before .before .before in
+    let t = m .before .before .before .before .before .before .before .before in
+    let p = t .before .before .before .before .before .before .before .pre in
+    ((m .moved .ensures, p .0 .1, omega (arith, t), p .1 .1, p .1 .2), omega (arith, t))
 
-claim-requires : tie.Need-claim-requires
-claim-requires c κs = let p = c .before .before .before .before .before .before .before .before .before .before .before .before .before .before .before .before .before .before .before .pre in ((c .before .before .before .before .before .before .before .before .before .before .before .before .pass .ensures, p .0 .1, omega (arith, c .before .before .before .before .before .before .before .before .before .before .before .before .pass .kept, p .1), p .1 .1, p .1 .2), omega (arith, c .before .before .before .before .before .before .before .before .before .before .before .before .pass .kept, p .1))
+take-candidate-requires : tie.Need-take-candidate-requires
+take-candidate-requires c κs =
+    let t = c .before .before .before .before .before .before .before .before .before .before .before .before in
+    let p = t .before .before .before .before .before .before .before .pre in
+    ((t .copy-links .ensures, p .0 .1, omega (arith, t), p .1 .1, p .1 .2), omega (arith, t))
 
 pub turn-spec : {M : Type 1} → statement M
 turn-spec =
@@ -28,17 +39,17 @@ turn-spec =
     (λ c. search needs)
     moved-requires
     (λ c. search needs)
-    shared-slice-copy-out-follow
+    shared-slice-copy-out-take-old
     (λ c. search needs)
-    shared-slice-copy-out-follow-2
-    follow-requires
-    (λ c. search needs)
-    (λ c. search needs)
+    shared-slice-copy-out-take-old-2
+    take-old-requires
     (λ c. search needs)
     (λ c. search needs)
     (λ c. search needs)
     (λ c. search needs)
-    claim-requires
+    (λ c. search needs)
+    (λ c. search needs)
+    take-candidate-requires
     (λ c. search needs)
     (λ c. search needs)
     (λ c. search needs)

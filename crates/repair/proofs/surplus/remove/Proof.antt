@@ -5,8 +5,10 @@ use borrow.Author.Needs.{needs}
 use Rattle.repair.proofs.surplus.remove.Statement.{statement}
 use Rattle.repair.proofs.surplus.remove.Tie as tie
 
-update-requires : tie.Need-update-requires
-update-requires c κs = let p = c .before .before .before .before .pre in (record { old = p .0 .old; links = p .0 .links; rows = omega arith; first = p .0 .first }, p .1, simp length-set (p .2))
+find-earliest-requires : tie.Need-find-earliest-requires
+find-earliest-requires c κs =
+    let p = c .before .before .before .before .pre in
+    (record { old = p .0 .old; links = p .0 .links; rows = omega arith; first = p .0 .first }, p .1, simp length-set (p .2))
 
 pub remove-spec : {M : Type 1} → statement M
 remove-spec =
@@ -19,6 +21,6 @@ remove-spec =
     (λ c. search needs)
     (λ c. search needs)
     (λ c. search needs)
-    update-requires
+    find-earliest-requires
     (λ c. search needs)
     (λ c. search needs))

@@ -4,8 +4,10 @@ use borrow.Author.Needs.{needs}
 use Rattle.repair.proofs.surplus.replace.Statement.{statement}
 use Rattle.repair.proofs.surplus.replace.Tie as tie
 
-update-requires : tie.Need-update-requires
-update-requires c κs = let p = c .before .before .before .before .before .before .before .before .before .before .before .pre in (c .before .before .before .before .before .charge .ensures, p .1 .a .numbers, simp length-set (p .4))
+find-earliest-requires : tie.Need-find-earliest-requires
+find-earliest-requires c κs =
+    let p = c .before .before .before .before .before .before .before .before .before .before .before .pre in
+    (c .before .before .before .before .before .charge .ensures, p .1 .a .numbers, simp length-set (p .4))
 
 pub replace-spec : {M : Type 1} → statement M
 replace-spec =
@@ -24,6 +26,6 @@ replace-spec =
     (λ c κs. search needs)
     (λ c. search needs)
     (λ c. search needs)
-    update-requires
+    find-earliest-requires
     (λ c. search needs)
     (λ c. search needs))

@@ -1,20 +1,22 @@
--- `run::pass` meets its contract. Assumes nothing.
+-- `run::copy_links` meets its contract. Assumes nothing.
 use Prim.Native.Nat.{_-_, _≤_}
 use mathlib.Core.Path.{_≡_}
 use lib.ListN.{length}
 use Rattle.matching.specs.Definitions.Sizes.{linkRows}
 use borrow.Author.Needs.{needs}
-use Rattle.repair.proofs.run.pass.Statement.{statement}
-use Rattle.repair.proofs.run.pass.Tie as tie
+use Rattle.repair.proofs.run.copy_links.Statement.{statement}
+use Rattle.repair.proofs.run.copy_links.Tie as tie
 
 abbrev Inv-loop : tie.InvT-loop
-Inv-loop run ns old from left₀ blocks₀ surplus new₀ to₀ p k₀ n₀ left blocks new to k n = (k ≤ linkRows) × (n ≤ linkRows) × (length left ≡ length left₀) × (length blocks ≡ length blocks₀) × (length new ≡ length new₀) × (length to ≡ length to₀)
+Inv-loop run ns old from left₀ blocks₀ surplus new₀ to₀ p k₀ n₀ left blocks new to k n =
+    (k ≤ linkRows) × (n ≤ linkRows) × (length left ≡ length left₀) × (length blocks ≡ length blocks₀) × (length new ≡ length new₀)
+    × (length to ≡ length to₀)
 
 abbrev μ-loop : tie.MeasureT-loop
 μ-loop run ns old from left₀ blocks₀ surplus new₀ to₀ p k₀ n₀ left blocks new to k n = length old - k
 
-pub pass-spec : {M : Type 1} → statement M
-pass-spec =
+pub copy-links-spec : {M : Type 1} → statement M
+copy-links-spec =
     tie.close
     (tie.spec
     Inv-loop
