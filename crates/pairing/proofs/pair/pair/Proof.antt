@@ -50,7 +50,7 @@ write-rows-requires c κs =
     let x = c .before .before .before .before .before .before .before .before .before .before .before .before .before .before .before .before .before .before .before .before .before .before .before .before .before .before .before .before .before .args in
     let e = sym (c .before .before .before .before .before .before .before .before .before .before .before .before .before .before .before .before .before .before .before .before .before .before .before .before .lengths-right .ensures) ∙ not-false _ (c .before .before .before .before .before .before .before .before .before .before .before .before .before .before .before .before .before .before .before .before .before .before .before .if1 .left) in
     let j = c .before .before .before .join .ensures in
-    (list-size (x .a .now) (x .b .now) (x .list .now) e _ (c .before .before .before .before .before .before .before .before .before .before .before .before .judge .ensures .0) (c .before .before .before .before .before .before .before .before .before .match .keys1), omega arith, record { most = j .most; room = j .room })
+    (list-size (x .a .now) (x .b .now) (x .list .now) e _ (c .before .before .before .before .before .before .before .before .before .before .before .before .judge .ensures .0) (c .before .before .before .before .before .before .before .before .before .match .keys1), omega arith, record { most = omega (arith, j .most); room = j .room })
 
 returns-2 : tie.Need-returns-2
 returns-2 c =

@@ -1,5 +1,6 @@
 -- `pairing::spare::spare` meets its contract: the verdict's answer, or the node's. Assumes nothing.
 use mathlib.Core.Path.{refl}
+use native.Mathlib.Omega.{arith}
 use Rattle.contract.specs.declared.Refusal.the-variants.{Unfinished}
 use Rattle.contract.specs.Definitions.Requests.{spare}
 use Rattle.contract.specs.Laws.Places.{tried}
@@ -20,7 +21,7 @@ found c =
     list-links (x .a .now) (x .b .now) (x .list .now) _ (c .before .before .before .before .judge-all .result) (c .before .before .before .before .judge-all .ensures) _ (c .before .answer .given .1)
 
 of-master-requires : tie.Need-of-master-requires
-of-master-requires c κs = let f = found (c .before) in (f .sound .size-a, f .sound .size-b, record { most = f .joined .most; room = f .joined .room })
+of-master-requires c κs = let f = found (c .before) in (f .sound .size-a, f .sound .size-b, record { most = omega (arith, f .joined .most); room = f .joined .room })
 
 returns : tie.Need-returns
 returns c =
