@@ -2,3 +2,4 @@
 pub mod Rows
 pub mod Compare
 pub mod Bands
+pub mod Zeros

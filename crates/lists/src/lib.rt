@@ -3,3 +3,4 @@ pub mod bands;
 pub mod compare;
 pub mod rows;
 pub mod spare;
+pub mod zeros;

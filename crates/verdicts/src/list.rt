@@ -11,11 +11,11 @@ use closest::join;
 use contract::Answer;
 use contract::Refusal;
 use lists::compare::first_difference;
+use lists::zeros::zero_from;
 use matching::Spans;
 use matching::sizes::LINKS;
 use stability::verify;
 use tables::compare::Difference;
-use tables::lists::zero_from;
 
 // The list leaves the finished one in this row.
 fn leave(list: &[u8], row: u16) -> Answer
