@@ -1,4 +1,4 @@
--- The sizes that a repair works with, beside matching's. src/sizes.rt has the same numbers.
+-- The sizes that contracts and proofs cite, beside matching's; the code's stand in src/sizes.rt.
 use Prim.Native.Nat.{ℕ}
 
 -- The rows with a surplus that are kept.

@@ -1,4 +1,4 @@
-// The sizes that a repair works with, as in specs/Sizes.antt; the others are matching's.
+// The sizes that a repair alone works with; the others are matching's. specs/Sizes.antt has those that contracts and proofs cite.
 // The rows with a surplus that are kept: with more a repair gives up.
 pub const SURPLUS: usize = 64;
 

@@ -113,7 +113,7 @@ fn remove(run: Run, ns: &[u32], surplus: &mut [[u64; 2]]) -> Run
     find_earliest(r, ns, surplus)
 }
 
-// Row t, whose candidate p was the earliest, looks for another candidate and another runner-up.
+// The row whose candidate p was the earliest looks for another candidate and another runner-up.
 fn replace(
     run: Run,
     p: u64,

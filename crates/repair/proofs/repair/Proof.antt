@@ -1,6 +1,6 @@
 -- `repair` meets its contract: its masters' rows are those of the set, and there is room for all that it works on. Assumes nothing.
 use Prim.Native.Nat.{ℕ}
-use mathlib.Core.Path.{_≡_, sym}
+use mathlib.Core.Path.{sym}
 use mathlib.Core.List.{List, [], _∷_}
 use lib.IntN.{ℤ, pos}
 use lib.ListN.{replicate, length-replicate, getD-replicate}
