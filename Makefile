@@ -26,8 +26,7 @@ test:
 	@tools/gate
 
 run:
-	@mkdir -p target
-	@rt check replay >target/run.log 2>&1 || { cat target/run.log; exit 1; }
+	@tools/prove check replay
 	@target/bin/replay <crates/replay/stdin
 
 proved:
@@ -57,7 +56,7 @@ fuzz: $(archive)
 # What the archive is made of; a proof is part of it, since without one there is no archive.
 crates = $(addprefix crates/,$(shell tools/crates pairing))
 $(archive): $(shell find $(crates) -name '*.rt' -o -name '*.antt')
-	@rt staticlib pairing
+	@tools/prove staticlib pairing
 
 into = $(DESTDIR)$(PREFIX)
 install: $(archive)

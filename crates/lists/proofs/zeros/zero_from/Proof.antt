@@ -31,10 +31,11 @@ loop-holds c = (omega arith, refl)
 loop-again : tie.Need-loop-again Inv-loop μ-loop
 loop-again c =
     let l = c .before .before .before in
-    let z = zero (l .before .before .args .list .now) in
-    (omega arith,
-    l .loop .inv .1 ∙ all-next z (l .loop .i) listSize (omega arith) (eqb (l .loop .most) 0)
-    ∙ ap (λ (b : Bool). b && allFrom z (l .loop .i + 1) (listSize - (l .loop .i + 1))) (sym (c .greater .ensures)))
+    let z = zero (l .before .before .args .list .now) in (
+      omega arith,
+      l .loop .inv .1 ∙ all-next z (l .loop .i) listSize (omega arith) (eqb (l .loop .most) 0)
+          ∙ ap (λ (b : Bool). b && allFrom z (l .loop .i + 1) (listSize - (l .loop .i + 1))) (sym (c .greater .ensures)),
+    )
 
 returns : tie.Need-returns Inv-loop μ-loop
 returns c =
