@@ -3,8 +3,8 @@
 //! - [`shapes`]: the families of drawings that are timed.
 //! - [`cases`]: the calls that are timed, and what they are lent.
 //! - [`calls`]: a set of the calls, the engine's or a peer's.
-//! - [`peer`]: the calls in safe Rust, over a method of joining, checking and revising.
-//! - [`same`]: the engine's own method, once more: [`order`], [`blocks`], [`chain`], [`check`], [`revise`].
+//! - [`peer`]: the calls in safe Rust, over a method of joining, checking and repairing.
+//! - [`same`]: the engine's own method, once more: [`order`], [`blocks`], [`chain`], [`check`], [`repair`].
 //! - [`sorted`]: the plain way, all pairs sorted, to check a list and to make one.
 //! - [`bytes`]: tables to nodes and links to a list, as both peers do it.
 //! - [`measure`]: the three by turns on the same calls, timed by [`clock`] and compared.
@@ -28,8 +28,8 @@ pub mod hard;
 pub mod measure;
 pub mod order;
 pub mod peer;
+pub mod repair;
 pub mod report;
-pub mod revise;
 pub mod same;
 pub mod shapes;
 pub mod sorted;

@@ -1,4 +1,4 @@
-//! The calls in safe Rust, over any method of joining, of checking a list and of revising it.
+//! The calls in safe Rust, over any method of joining, of checking a list and of repairing it.
 
 use interface::{calls, slice};
 use model::answer::{answer, Refusal};
@@ -30,7 +30,7 @@ pub trait Method: Default {
     fn is_finished(&mut self, masters: &[Master; 2], list: &[u8]) -> bool;
 
     /// As the join, after an edit of one node; the list was finished before it. By default joined anew.
-    fn revise(
+    fn repair(
         &mut self,
         masters: &[Master; 2],
         _list: &[u8],
@@ -109,7 +109,7 @@ impl<M: Method> Kept<M> {
         let _ = master.read(table);
         self.method.rearrange(edited.side, master, &self.known);
         self.method
-            .revise(&self.masters, list, edited, &mut self.links);
+            .repair(&self.masters, list, edited, &mut self.links);
         let kept = common(list, &self.links);
         write_from(list, &self.links, kept);
         Ok(kept as u64)

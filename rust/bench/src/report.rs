@@ -15,7 +15,7 @@ pub fn heading() -> String {
     format!(
         "Whole calls through the archive, by turns with two peers in safe Rust; after each turn every answer and every\n\
          lent byte is compared. `same` is the engine's method: the lent list is checked without a join, a list is made by\n\
-         the chain, and an edit revises the lent one and checks what comes out. `plain` sorts all pairs, once to check the\n\
+         the chain, and an edit repairs the lent one and checks what comes out. `plain` sorts all pairs, once to check the\n\
          lent list and once for the new one.\n\
          Processor time of the calling thread: medians over {} calls, {DRAWINGS} drawings {ROUNDS} times ({} for `plain`), after\n\
          one time that is not counted. `worst` is the engine's longest call. Each call gets fresh copies of its buffers, not\n\

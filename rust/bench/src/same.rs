@@ -1,4 +1,4 @@
-//! The engine's own method: nodes in tiles, the check without a join, the chain, and links that are revised.
+//! The engine's own method: nodes in tiles, the check without a join, the chain, and links that are repaired.
 
 use crate::blocks::Blocks;
 use crate::bytes::{rows, Link, Master};
@@ -6,7 +6,7 @@ use crate::chain::Chain;
 use crate::check::Check;
 use crate::order::Order;
 use crate::peer::{Edited, Method};
-use crate::revise::{After, Revision};
+use crate::repair::{After, Repair};
 
 #[derive(Default)]
 pub struct Same {
@@ -15,7 +15,7 @@ pub struct Same {
     blocks: [Blocks; 2],
     check: Check,
     chain: Chain,
-    revision: Revision,
+    repair: Repair,
 }
 
 impl Method for Same {
@@ -37,8 +37,8 @@ impl Method for Same {
         self.check.is_finished(masters, &self.blocks, list)
     }
 
-    /// Revised links are kept only where the check says yes to them.
-    fn revise(
+    /// Repaired links are kept only where the check says yes to them.
+    fn repair(
         &mut self,
         masters: &[Master; 2],
         list: &[u8],
@@ -47,9 +47,9 @@ impl Method for Same {
     ) {
         let blocks = &self.blocks;
         let after = After { masters, blocks };
-        let revised = self.revision.revise(after, rows(list), edited, links);
+        let repaired = self.repair.repair(after, rows(list), edited, links);
         let new = links.iter().copied();
-        if revised.is_none() || !self.check.is_join_again(masters, blocks, new) {
+        if repaired.is_none() || !self.check.is_join_again(masters, blocks, new) {
             self.join(masters, links);
         }
     }

@@ -10,9 +10,11 @@ use crate::blocks::{Blocks, Bounds, Partner, BLOCK};
 use crate::bytes::{link, parts, refill, Link, Master, Node};
 use crate::peer::Edited;
 
-/// The revision gives up beyond these: the chain is then as fast.
+/// The repair gives up beyond these: the chain is then as fast. Its cost is that of the blocks scanned and of the looks through the
+/// candidates; it may cost so much at first, and so much more for each old link that it passes.
 const MOST_CANDIDATES: usize = 64;
-const MOST_SEARCHES: usize = 2_000;
+const ADVANCE: usize = 32;
+const SHARE: usize = 4;
 
 /// The drawing after the edit.
 #[derive(Clone, Copy)]
@@ -35,7 +37,7 @@ impl After<'_> {
     }
 
     /// The two nearest partners that have something left; none where there is no such one.
-    fn nearest(&self, from: End, left: &mut Left) -> [Option<End>; 2] {
+    fn nearest(&self, from: End, left: &mut Left, cost: &mut usize) -> [Option<End>; 2] {
         let side = 1 - from.side;
         let nodes = &self.masters[side].nodes;
         let from = &self.masters[from.side].nodes[from.place];
@@ -44,6 +46,7 @@ impl After<'_> {
             if !left.is_near(block, from, best[1], nodes) {
                 continue;
             }
+            *cost += 2;
             for (place, node) in left.open(block, nodes) {
                 let partner = Partner::new(from, node, place);
                 if partner.key < best[0].key {
@@ -71,7 +74,7 @@ impl After<'_> {
     }
 }
 
-/// What each node of a master has left where the revision is, and boxes around those that have something.
+/// What each node of a master has left where the repair is, and boxes around those that have something.
 #[derive(Default)]
 struct Left {
     old: Vec<u16>,
@@ -153,16 +156,17 @@ struct Candidate {
 }
 
 #[derive(Default)]
-pub struct Revision {
+pub struct Repair {
     /// Of A, then of B.
     left: [Left; 2],
     candidates: Vec<Candidate>,
-    searches: usize,
+    cost: usize,
+    passed: usize,
 }
 
-impl Revision {
+impl Repair {
     /// Puts the new links, in pair order, in the place of those given; none where it gives up.
-    pub fn revise(
+    pub fn repair(
         &mut self,
         after: After,
         old: impl Iterator<Item = Link>,
@@ -173,6 +177,7 @@ impl Revision {
         self.start(after, edited)?;
         for old in old {
             self.take_candidates(after, old.0, links)?;
+            self.passed += 1;
             self.follow(after, old, edited, links)?;
         }
         self.take_candidates(after, u64::MAX, links)
@@ -192,7 +197,8 @@ impl Revision {
             );
         }
         self.candidates.clear();
-        self.searches = 0;
+        self.cost = 0;
+        self.passed = 0;
         let Some(end) = after.end(edited.side, edited.number) else {
             return Some(());
         };
@@ -248,6 +254,7 @@ impl Revision {
     /// Takes the candidates whose links come before this key.
     fn take_candidates(&mut self, after: After, key: u64, links: &mut Vec<Link>) -> Option<()> {
         while let Some(at) = self.earliest_before(key) {
+            self.cost += 1 + self.candidates.len() / 16;
             let next = self.candidates[at];
             if self.has(next.partner) {
                 self.take(after, next.key, [next.richer, next.partner], links)?;
@@ -310,10 +317,11 @@ impl Revision {
         Some(())
     }
 
-    /// Makes a node a candidate where it is richer than before, and only there.
+    /// Makes a node a candidate where it has something left and had nothing, and only there: while it had something, its old
+    /// links tell the next ones.
     fn compare(&mut self, after: After, end: End) -> Option<()> {
         let left = &self.left[end.side];
-        let richer = left.new[end.place] > left.old[end.place];
+        let richer = left.new[end.place] > 0 && left.old[end.place] == 0;
         let mut candidates = self.candidates.iter();
         match candidates.position(|candidate| candidate.richer == end) {
             None if richer => return self.search(after, end),
@@ -324,9 +332,9 @@ impl Revision {
     }
 
     fn search(&mut self, after: After, richer: End) -> Option<()> {
-        self.searches += 1;
+        self.cost += 1;
         let left = &mut self.left[1 - richer.side];
-        if let [Some(partner), runner_up] = after.nearest(richer, left) {
+        if let [Some(partner), runner_up] = after.nearest(richer, left, &mut self.cost) {
             let key = after.key(richer, partner);
             self.candidates.push(Candidate {
                 key,
@@ -335,7 +343,7 @@ impl Revision {
                 runner_up,
             });
         }
-        let few = self.searches <= MOST_SEARCHES && self.candidates.len() <= MOST_CANDIDATES;
-        few.then_some(())
+        let cheap = self.cost <= ADVANCE + SHARE * self.passed;
+        (cheap && self.candidates.len() <= MOST_CANDIDATES).then_some(())
     }
 }
