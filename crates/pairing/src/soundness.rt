@@ -38,7 +38,8 @@ pub fn judge(
     heads: &mut [u16],
     next: &mut [u16],
 ) -> Answer
-    requires { ⌜ (length (now a) ≡ tableSize) × (length (now b) ≡ tableSize) × Named (now a) (s .a) (now ns) × Named (now b) (s .b) (now ns) × Indexed (now heads) (now next) ⌝ }
+    requires { ⌜ (length (now a) ≡ tableSize) × (length (now b) ≡ tableSize) × Named (now a) (s .a) (now ns) × Named (now b) (s .b) (now ns)
+        × Indexed (now heads) (now next) ⌝ }
     ensures { λ r. ⌜ (r ≡ byFaults (firstFault (now (a .entry))) (firstFault (now (b .entry)))) × Indexed (now (heads .exit)) (now (next .exit)) ⌝ }
 {
     let in_a = fault(a, s.a, ns, heads, next);

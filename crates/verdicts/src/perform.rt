@@ -69,7 +69,8 @@ fn change_table(change: Change, t: &mut [u8], edit: &[u8]) -> Answer
 // A change in the master that the edit names: the other table stays.
 fn change_master(change: Change, a: &mut [u8], b: &mut [u8], edit: &[u8]) -> Answer
     requires { ⌜ (length (now a) ≡ tableSize) × (length (now b) ≡ tableSize) × (length (now edit) ≡ editSize) × (change ≡ changeOf (kindOf (now edit))) ⌝ }
-    ensures { λ r. ⌜ (r ≡ masterAnswer (now (edit .entry)) (nodesIn (now (a .entry))) (nodesIn (now (b .entry)))) × Performed (now (edit .entry)) (now (a .entry)) (now (b .entry)) (now (a .exit)) (now (b .exit)) r ⌝ }
+    ensures { λ r. ⌜ (r ≡ masterAnswer (now (edit .entry)) (nodesIn (now (a .entry))) (nodesIn (now (b .entry))))
+        × Performed (now (edit .entry)) (now (a .entry)) (now (b .entry)) (now (a .exit)) (now (b .exit)) r ⌝ }
 {
     let master = master_of(edit);
     match master {
@@ -82,7 +83,8 @@ fn change_master(change: Change, a: &mut [u8], b: &mut [u8], edit: &[u8]) -> Ans
 // The one test of an edit's kind.
 pub fn perform(a: &mut [u8], b: &mut [u8], edit: &[u8]) -> Answer
     requires { ⌜ (length (now a) ≡ tableSize) × (length (now b) ≡ tableSize) × (length (now edit) ≡ editSize) ⌝ }
-    ensures { λ r. ⌜ (r ≡ editAnswer (now (edit .entry)) (nodesIn (now (a .entry))) (nodesIn (now (b .entry)))) × Performed (now (edit .entry)) (now (a .entry)) (now (b .entry)) (now (a .exit)) (now (b .exit)) r ⌝ }
+    ensures { λ r. ⌜ (r ≡ editAnswer (now (edit .entry)) (nodesIn (now (a .entry))) (nodesIn (now (b .entry))))
+        × Performed (now (edit .entry)) (now (a .entry)) (now (b .entry)) (now (a .exit)) (now (b .exit)) r ⌝ }
 {
     let kind = kind_of(edit);
     match kind {

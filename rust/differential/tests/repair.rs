@@ -1,4 +1,4 @@
-//! Edits that leave many nodes with more than they had: up to as many as a revision of the links keeps at a time, and one
+//! Edits that leave many nodes with more than they had: up to as many as a repair of the links keeps at a time, and one
 //! more, where the links are joined anew.
 
 use differential::Archive;
