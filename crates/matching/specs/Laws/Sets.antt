@@ -59,7 +59,7 @@ tabulate-in f k (suc n) i l h = go (ℕ-discrete i k) (λ g. tabulate-in f (suc 
     go (yes e) rest = List·Memᴰ·head (ap f e)
     go (no e) rest = List·Memᴰ·tail (rest (omega arith))
 
-tabulate-unique : (f : ℕ → Node) (k n : ℕ) → ((i j : ℕ) → k ≤ i → i < k + n → k ≤ j → j < k + n → f i .number ≡ f j .number → i ≡ j) → Unique (tabulate f k n)
+pub tabulate-unique : (f : ℕ → Node) (k n : ℕ) → ((i j : ℕ) → k ≤ i → i < k + n → k ≤ j → j < k + n → f i .number ≡ f j .number → i ≡ j) → Unique (tabulate f k n)
 unfolding tabulate
 tabulate-unique f k zero h = tt
 tabulate-unique f k (suc n) h = (
