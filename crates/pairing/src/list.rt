@@ -62,7 +62,18 @@ pub fn judge_all(a: &[u8], b: &[u8], list: &[u8], links: &mut [[u32; 4]]) -> Ans
         Answer::Done(_) => {
             let mut places = [[0u16; 2]; LINKS];
             let mut limits = [0u64; ROWS];
-            examine(list, &ns, &at, &cs, s, &heads, &next, links, &mut places, &mut limits)
+            examine(
+                list,
+                &ns,
+                &at,
+                &cs,
+                s,
+                &heads,
+                &next,
+                links,
+                &mut places,
+                &mut limits,
+            )
         }
         _ => answer,
     }

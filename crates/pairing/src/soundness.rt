@@ -30,7 +30,14 @@ pub fn lengths_right(a: &[u8], b: &[u8], list: &[u8]) -> bool
 }
 
 // Both tables, whose numbers are in the set; its rows are indexed.
-pub fn judge(a: &[u8], b: &[u8], s: Spans, ns: &[u32], heads: &mut [u16], next: &mut [u16]) -> Answer
+pub fn judge(
+    a: &[u8],
+    b: &[u8],
+    s: Spans,
+    ns: &[u32],
+    heads: &mut [u16],
+    next: &mut [u16],
+) -> Answer
     requires { ⌜ (length (now a) ≡ tableSize) × (length (now b) ≡ tableSize) × Named (now a) (s .a) (now ns) × Named (now b) (s .b) (now ns) × Indexed (now heads) (now next) ⌝ }
     ensures { λ r. ⌜ (r ≡ byFaults (firstFault (now (a .entry))) (firstFault (now (b .entry)))) × Indexed (now (heads .exit)) (now (next .exit)) ⌝ }
 {

@@ -175,18 +175,7 @@ fn turn(
             to,
         );
     }
-    links::claim(
-        r,
-        s,
-        ns,
-        at,
-        left,
-        blocks,
-        boxes,
-        surplus,
-        new,
-        to,
-    )
+    links::claim(r, s, ns, at, left, blocks, boxes, surplus, new, to)
 }
 
 // The run has no old link of n ahead, and no row has a surplus.

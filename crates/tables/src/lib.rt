@@ -7,8 +7,5 @@ pub mod faults;
 pub mod fields;
 pub mod find;
 pub mod lists;
-pub mod lookup;
-pub mod nodes;
 pub mod rows;
 pub mod sizes;
-pub mod spare;

@@ -34,7 +34,14 @@ fn of_node(t: &[u8], links: &[[u32; 4]], n: usize, side: usize, number: u16) -> 
 }
 
 // Of the master that the byte names, beside the first n links.
-pub fn of_master(a: &[u8], b: &[u8], links: &[[u32; 4]], n: usize, master: u8, number: u16) -> Answer
+pub fn of_master(
+    a: &[u8],
+    b: &[u8],
+    links: &[[u32; 4]],
+    n: usize,
+    master: u8,
+    number: u16,
+) -> Answer
     requires { ⌜ (length (now a) ≡ tableSize) × (length (now b) ≡ tableSize) × Held (now links) n ⌝ }
     ensures { λ r. ⌜ r ≡ masterSpare (now (a .entry)) (now (b .entry)) (linksIn (now (links .entry)) n) master number ⌝ }
 {

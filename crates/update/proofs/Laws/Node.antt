@@ -23,12 +23,14 @@ use Rattle.tables.specs.Definitions.Sizes.{nodeSize}
 use Rattle.tables.specs.Definitions.Tables.{nodeFrom, nodesIn}
 use Rattle.tables.specs.Laws.Edited.{has-none}
 use Rattle.tables.specs.Laws.Find.{RowOf}
-use Rattle.tables.specs.Laws.Sound.{rows-at}
+use Rattle.tables.specs.Laws.Nodes.{rows-at}
 use Rattle.stability.specs.Barred.{Patched, fresh, moved}
-use Rattle.update.specs.Rows.{nodesBetween, Found, Written, Stored, Outdated, Same, Current}
+use Rattle.load.specs.Load.{Written, Stored}
+use Rattle.load.specs.Laws.Decode.{written-columns, written-node}
+use Rattle.update.specs.Rows.{nodesBetween, Found, Outdated, Same, Current}
 use Rattle.update.specs.Departures.{depart-absent}
 use Rattle.update.proofs.Laws.Lists.{put-first, depart-none, one-written, one-more, one-less}
-use Rattle.update.proofs.Laws.Written.{at-written, written-columns, written-node, written-same, same-node, same-patched, on-range}
+use Rattle.update.proofs.Laws.Written.{at-written, written-same, same-node, same-patched, on-range}
 
 -- The table's nodes are the node with the number z and the others;
 module _ {t : List ℕ} {z k : ℕ} (o : RowOf t z k) where

@@ -34,9 +34,10 @@ examine-requires c κs =
     let f = s .pre .0 .0 in
     let ba = bytes-known (x .a .now) (c .before .before .before .before .before .before .before .before .before .before .before .before .before .before .slice-known .given) in
     let bb = bytes-known (x .b .now) (c .before .before .before .before .before .before .before .before .before .before .before .before .before .slice-known2 .given) in
-    let l = s .pre .1 .0 in
-    ((set-beside (x .a .now) (x .b .now) f ba bb (sound-represents f ba bb l) (x .list .now) (s .pre .0 .1), s .pre .1 .1),
-    (length-replicate {A = List ℕ} 1023 (0 ∷ 0 ∷ 0 ∷ 0 ∷ []), length-replicate {A = List ℕ} 1023 (0 ∷ 0 ∷ []), no-limits (l .spans)))
+    let l = s .pre .1 .0 in (
+      (set-beside (x .a .now) (x .b .now) f ba bb (sound-represents f ba bb l) (x .list .now) (s .pre .0 .1), s .pre .1 .1),
+      (length-replicate {A = List ℕ} 1023 (0 ∷ 0 ∷ 0 ∷ 0 ∷ []), length-replicate {A = List ℕ} 1023 (0 ∷ 0 ∷ []), no-limits (l .spans)),
+    )
 
 -- Where the function begins, as seen from the performed edit, and what is known of the tables there.
 abbrev at-start : tie.After-perform → tie.Start
@@ -86,10 +87,13 @@ revise-requires c κs =
     let bb = bytes-b at-perform in
     let changed = performed-done (x .edit .now) (x .a .now) (x .b .now) _ _ (at-perform .perform .result) done (at-perform .perform .ensures .1) in
     let q = passed at-perform done in
-    let e = at-perform .before .before .before .before .before .before .before .before .before .examine .ensures in
-    ((edited-set (x .edit .now) (x .a .now) (x .b .now) (p .0) ba bb q _ _ changed (p .2) (s .pre .1 .0) (e .3),
-    changed-sound (x .edit .now) (x .a .now) (x .b .now) (x .list .now) _ _ f ba bb q _ _ changed),
-    (p .1, record { most = f .joined .most; room = f .joined .room }, e .2))
+    let e = at-perform .before .before .before .before .before .before .before .before .before .examine .ensures in (
+      (
+        edited-set (x .edit .now) (x .a .now) (x .b .now) (p .0) ba bb q _ _ changed (p .2) (s .pre .1 .0) (e .3),
+        changed-sound (x .edit .now) (x .a .now) (x .b .now) (x .list .now) _ _ f ba bb q _ _ changed,
+      ),
+      (p .1, record { most = f .joined .most; room = f .joined .room }, e .2),
+    )
 
 returns : tie.Need-returns
 returns c =

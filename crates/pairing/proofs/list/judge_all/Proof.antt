@@ -43,9 +43,10 @@ examine-requires c κs =
     let f = both-sound (x .a .now) (x .b .now) (x .list .now) e _ (j .0) (c .before .before .before .before .before .before .before .before .before .match .keys1) in
     let ba = bytes-known (x .a .now) (c .before .before .before .before .before .before .before .before .before .before .before .before .before .before .before .before .before .before .before .before .before .before .before .before .before .before .before .shared-slice-known .given) in
     let bb = bytes-known (x .b .now) (c .before .before .before .before .before .before .before .before .before .before .before .before .before .before .before .before .before .before .before .before .before .before .before .before .before .before .shared-slice-known2 .given) in
-    let l = c .before .before .before .before .before .before .before .before .before .before .before .before .before .before .before .before .before .before .before .load .ensures in
-    ((set-beside (x .a .now) (x .b .now) f ba bb (sound-represents f ba bb l) (x .list .now) (list-size (x .a .now) (x .b .now) (x .list .now) e _ (j .0) (c .before .before .before .before .before .before .before .before .before .match .keys1)), j .1),
-    (c .before .before .before .before .before .before .before .before .before .before .before .before .before .before .before .before .before .before .before .before .before .before .before .before .before .before .before .before .pre, length-replicate {A = List ℕ} 1023 (0 ∷ 0 ∷ []), no-limits (l .spans)))
+    let l = c .before .before .before .before .before .before .before .before .before .before .before .before .before .before .before .before .before .before .before .load .ensures in (
+      (set-beside (x .a .now) (x .b .now) f ba bb (sound-represents f ba bb l) (x .list .now) (list-size (x .a .now) (x .b .now) (x .list .now) e _ (j .0) (c .before .before .before .before .before .before .before .before .before .match .keys1)), j .1),
+      (c .before .before .before .before .before .before .before .before .before .before .before .before .before .before .before .before .before .before .before .before .before .before .before .before .before .before .before .before .pre, length-replicate {A = List ℕ} 1023 (0 ∷ 0 ∷ []), no-limits (l .spans)),
+    )
 
 returns-2 : tie.Need-returns-2
 returns-2 c =

@@ -10,10 +10,11 @@ returns c =
     let s = c .before .before .before .before .before .before .before .before .before .before in
     let x = s .args in
     let p = s .pre in
-    let f = c .before .before .before .finished .ensures .0 (c .if1 .taken) in
-    (reviewed _ _ _ (p .read .most) (p .read .room) (f .links) _ (bytes-known (x .list .now) (c .before .before .before .before .before .before .before .before .before .shared-slice-known .given)) (p .beside .size) (p .read) (f .zero),
-    listed _ _ _ (p .read .most) (p .read .room) (f .links),
-    c .before .before .before .finished .ensures .1)
+    let f = c .before .before .before .finished .ensures .0 (c .if1 .taken) in (
+      reviewed _ _ _ (p .read .most) (p .read .room) (f .links) _ (bytes-known (x .list .now) (c .before .before .before .before .before .before .before .before .before .shared-slice-known .given)) (p .beside .size) (p .read) (f .zero),
+      listed _ _ _ (p .read .most) (p .read .room) (f .links),
+      c .before .before .before .finished .ensures .1,
+    )
 
 same-length-4 : tie.Need-same-length-4
 same-length-4 c = c .before .before .before .before .before .limits .given
