@@ -50,8 +50,8 @@ module _ {i n : ℕ} {p : List ℤ} {c : ℕ} {ns : List ℕ} {at : List (List �
       }
 
   -- and the others are as they were.
-  pub written-other : (k : ℕ) → (k ≡ i → ⊥) → Same k ns at cs ns' at' cs'
-  written-other k h = record {
+  pub written-apart : (k : ℕ) → (k ≡ i → ⊥) → Same k ns at cs ns' at' cs'
+  written-apart k h = record {
     number = ap (λ (l : List ℕ). getD l k 0) (w .number) ∙ getD-set-other ns i k n 0 h;
     position = ap (λ (l : List (List ℤ)). getD l k []) (w .position) ∙ getD-set-other at i k p [] h;
     capacity = ap (λ (l : List ℕ). getD l k 0) (w .capacity) ∙ getD-set-other cs i k c 0 h;
@@ -99,7 +99,7 @@ module _ {t : List ℕ} {from : ℕ} {ns : List ℕ} {at : List (List ℤ)} {cs 
           (tabulate-snoc (nodeIn ns'' at'' cs'') from k
           ∙ ap (λ (w : Node). tabulate (nodeIn ns'' at'' cs'') from k ++ (w ∷ [])) (written-node s (p .columns) (omega arith))
           ∙ ap (λ (A : List Node). A ++ (nodeFrom t (nodeSize * k) ∷ []))
-          (tabulate-cong (nodeIn ns'' at'' cs'') (nodeIn ns' at' cs') from k (λ j a b. same-node (written-other s j (λ d. omega arith)))))
+          (tabulate-cong (nodeIn ns'' at'' cs'') (nodeIn ns' at' cs') from k (λ j a b. same-node (written-apart s j (λ d. omega arith)))))
 
       pub progress-more : Progress t from (k + 1) ns at cs ns'' at'' cs''
       progress-more = record {
@@ -109,7 +109,7 @@ module _ {t : List ℕ} {from : ℕ} {ns : List ℕ} {at : List (List ℤ)} {cs 
             ∙ ap (λ (A : List Node). rows ++ A) (nodes-next t k h e)
             ∙ sym (append-assoc rows (nodeFrom t (nodeSize * k) ∷ []) (nodesFrom t (k + 1) (nodeRows - (k + 1))))
             ∙ ap (λ (A : List Node). A ++ nodesFrom t (k + 1) (nodeRows - (k + 1))) (sym more);
-        apart = λ j g. same-then (p .apart j (λ a b. g a (omega arith))) (written-other s j (λ d. g (omega arith) (omega arith)));
+        apart = λ j g. same-then (p .apart j (λ a b. g a (omega arith))) (written-apart s j (λ d. g (omega arith) (omega arith)));
       }
 
 -- What is decoded and put in order is decoded.

@@ -34,7 +34,7 @@ use Rattle.update.proofs.Laws.Written.{at-written, written-same, same-n
 
 -- The table's nodes are the node with the number z and the others;
 module _ {t : List ℕ} {z k : ℕ} (o : RowOf t z k) where
-  pub node-first : k < nodeRows → Reordered (nodesIn t) (nodeFrom t (nodeSize * k) ∷ depart z (nodesIn t))
+  node-first : k < nodeRows → Reordered (nodesIn t) (nodeFrom t (nodeSize * k) ∷ depart z (nodesIn t))
   unfolding nodesIn
   node-first h = go (split z (nodesIn t) (o .known ∙ lt-ltb k nodeRows h))
     where
@@ -48,7 +48,7 @@ module _ {t : List ℕ} {z k : ℕ} (o : RowOf t z k) where
           rw (s .departed, ← v) (subst (λ (A : List Node). Reordered A (s .v ∷ (s .A₁ ++ s .A₂))) (sym (s .is-list)) (put-first (s .A₁) (s .v) (s .A₂)))
 
   -- or it has none with that number.
-  pub none-departs : nodeRows ≤ k → depart z (nodesIn t) ≡ nodesIn t
+  none-departs : nodeRows ≤ k → depart z (nodesIn t) ≡ nodesIn t
   none-departs h = depart-absent z (nodesIn t) (has-none z (nodesIn t) (o .known ∙ le-ltb k nodeRows h))
 
 module _ {t : List ℕ} {z : ℕ} {r : Range} {ns : List ℕ} {at : List (List ℤ)} {cs L : List ℕ} (o : Outdated t z r ns at cs L)

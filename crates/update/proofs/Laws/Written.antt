@@ -11,7 +11,7 @@ use Rattle.matching.specs.Definitions.Nodes.{Master}
 use Rattle.matching.specs.Definitions.Rows.{across, upward, range, On, nodeIn}
 use Rattle.stability.specs.Barred.{Patched, moved}
 use Rattle.load.specs.Load.{Written}
-use Rattle.load.specs.Laws.Decode.{written-other}
+use Rattle.load.specs.Laws.Decode.{written-apart}
 use Rattle.update.specs.Rows.{Same}
 
 -- A column in which place i was written.
@@ -23,7 +23,7 @@ module _ {i n : ℕ} {p : List ℤ} {c : ℕ} {ns : List ℕ} {at : List (List �
     (w : Written i n p c ns at cs ns' at' cs') where
   pub written-same : (L : List ℕ) (l : ℕ) {L' : List ℕ} → L' ≡ set L i l → (k : ℕ) → (k ≡ i → ⊥) → Same k ns at cs L ns' at' cs' L'
   written-same L l e k h =
-      let o = written-other w k h in
+      let o = written-apart w k h in
       record {
         number = sym (o .number);
         position = sym (o .position);
