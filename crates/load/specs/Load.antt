@@ -18,11 +18,15 @@ pub record Columns (ns : List ℕ) (at : List (List ℤ)) (cs : List ℕ) : Type
   pub positions : length at ≡ setRows
   pub capacities : length cs ≡ setRows
 
--- The node v is stored in row i, and the other rows are as they were.
-pub record Stored (v : Node) (i : ℕ) (ns : List ℕ) (at : List (List ℤ)) (cs ns' : List ℕ) (at' : List (List ℤ)) (cs' : List ℕ) : Type 0 where
-  pub number : ns' ≡ set ns i (v .number)
-  pub position : at' ≡ set at i (v .x ∷ v .y ∷ [])
-  pub capacity : cs' ≡ set cs i (v .capacity)
+-- Row i is written: number n, position p, capacity c. The other rows are as they were.
+pub record Written (i n : ℕ) (p : List ℤ) (c : ℕ) (ns : List ℕ) (at : List (List ℤ)) (cs ns' : List ℕ) (at' : List (List ℤ)) (cs' : List ℕ) : Type 0 where
+  pub number : ns' ≡ set ns i n
+  pub position : at' ≡ set at i p
+  pub capacity : cs' ≡ set cs i c
+
+-- The node v is stored in row i.
+abbrev pub Stored : Node → ℕ → List ℕ → List (List ℤ) → List ℕ → List ℕ → List (List ℤ) → List ℕ → Type 0
+Stored v i = Written i (v .number) (v .x ∷ v .y ∷ []) (v .capacity)
 
 -- The n rows from `from` on are the nodes of a table in some order; the other rows are as they were.
 pub record Decoded (t : List ℕ) (from n : ℕ) (ns : List ℕ) (at : List (List ℤ)) (cs ns' : List ℕ) (at' : List (List ℤ)) (cs' : List ℕ) : Type 0 where

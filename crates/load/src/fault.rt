@@ -9,8 +9,11 @@ ghost use Rattle.tables.specs.Definitions.Tables.{fieldsGood, firstFault};
 ghost use Rattle.tables.specs.Definitions.Code.{faultOf};
 ghost use Rattle.load.specs.Index.{Indexed, Named};
 ghost use Rattle.load.specs.Fault.{ZeroRow};
+use crate::decode::decode;
+use crate::index::SLOTS;
 use crate::index::index;
 use matching::Range;
+use matching::sizes::ROWS;
 use tables::faults::Fault;
 use tables::faults::first_fault;
 use tables::faults::row_number;
@@ -83,4 +86,18 @@ pub fn fault(t: &[u8], r: Range, ns: &[u32], heads: &mut [u16], next: &mut [u16]
         return Fault::None;
     }
     first_fault(t)
+}
+
+// The same for a table alone, in rows of its own.
+pub fn check(t: &[u8]) -> Fault
+    requires { ⌜ length (now t) ≡ tableSize ⌝ }
+    ensures { λ f. ⌜ f ≡ faultOf (firstFault (now (t .entry))) ⌝ }
+{
+    let mut ns = [0u32; ROWS];
+    let mut at = [[0i16; 2]; ROWS];
+    let mut cs = [0u32; ROWS];
+    let mut heads = [0u16; SLOTS];
+    let mut next = [0u16; ROWS];
+    let n = decode(t, 0, &mut ns, &mut at, &mut cs);
+    fault(t, Range { from: 0, to: n }, &ns, &mut heads, &mut next)
 }

@@ -1,6 +1,7 @@
 // The lines of document 01, E11, each written at a place of a lent text and giving its end.
 ghost use Prim.Native.Nat.{_+_, _≤_};
 ghost use lib.ListN.{length};
+ghost use Rattle.matching.specs.Definitions.Rows.{linkOf};
 ghost use Rattle.player.specs.Definitions.Text.{Written};
 ghost use Rattle.player.specs.Definitions.Lines.{lineRoom, loadLine, editLine, linkLine};
 use super::text::put_field;
@@ -43,13 +44,13 @@ pub fn edit_line(text: &mut [u8], at: usize, n: u32, answer: u32, links: u32) ->
     put_last(text, first, b" refused ", refusal)
 }
 
-pub fn link_line(text: &mut [u8], at: usize, a: u32, b: u32, d: u32, m: u32) -> usize
+pub fn link_line(text: &mut [u8], at: usize, link: [u32; 4]) -> usize
     requires { ⌜ at + lineRoom ≤ length (now text) ⌝ }
-    ensures { λ r. ⌜ Written (now (text .entry)) at (linkLine (record { a = a; b = b; distance = d; amount = m })) (now (text .exit)) r ⌝ }
+    ensures { λ r. ⌜ Written (now (text .entry)) at (linkLine (linkOf link)) (now (text .exit)) r ⌝ }
     ensures { λ r. ⌜ r ≤ at + lineRoom ⌝ }
 {
-    let first = put_field(text, at, b"link ", a);
-    let second = put_field(text, first, b" ", b);
-    let third = put_field(text, second, b" ", d);
-    put_last(text, third, b" ", m)
+    let first = put_field(text, at, b"link ", link[0]);
+    let second = put_field(text, first, b" ", link[1]);
+    let third = put_field(text, second, b" ", link[2]);
+    put_last(text, third, b" ", link[3])
 }

@@ -15,7 +15,7 @@ use Rattle.tables.specs.Definitions.Sizes.{nodeSize, nodeRows, tableSize}
 use Rattle.tables.specs.Definitions.Tables.{nodeFrom, rowNumber, nodesFrom, nodesIn, firstFault}
 use Rattle.tables.specs.Definitions.Code.{faultOf}
 use Rattle.tables.specs.declared.faults.Fault.the-variants.{None, Row}
-use Rattle.tables.specs.Laws.Sound.{fault-row, fault-none}
+use Rattle.tables.specs.Laws.Faults.{fault-row, fault-none}
 use Rattle.tables.specs.Laws.Accepted.{last-zero, still-zero}
 use Rattle.tables.specs.Laws.Find.{RowOf}
 use Rattle.reader.specs.declared.Node.{Node as Held}

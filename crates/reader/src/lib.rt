@@ -3,12 +3,12 @@
 // are done by hand: the work is in the functions on the slice and a row, which other callers may use too.
 ghost use mathlib.Core.Path.{_≡_};
 ghost use Rattle.reader.specs.Definitions.{nth, numbered, readable, startRow, nodeAt, rowAfter, nodeOf, foundOf};
+use load::fault::check;
 use tables::faults::Fault;
 use tables::faults::row_number;
 use tables::fields::position_at;
 use tables::find::capacity_in;
 use tables::find::row_of;
-use tables::nodes::fault;
 use tables::sizes::NODE;
 use tables::sizes::NODE_X;
 use tables::sizes::NODE_Y;
@@ -37,7 +37,7 @@ pub fn start(t: &[u8]) -> usize
     if t.len() != TABLE {
         return REFUSED;
     }
-    match fault(t) {
+    match check(t) {
         Fault::None => 0,
         Fault::Row(_) => REFUSED,
     }

@@ -3,6 +3,7 @@ pub mod Fields
 pub mod Rows
 pub mod RowsRead
 pub mod Tables
+pub mod Nodes
 pub mod Accepted
 pub mod Faultless
 pub mod Edits
@@ -11,14 +12,9 @@ pub mod Lists
 pub mod Ranges
 pub mod Faults
 pub mod Search
-pub mod LookUp
-pub mod Decode
-pub mod Sound
 pub mod Find
-pub mod LinkFields
 pub mod Digits
 pub mod Bands
-pub mod Spare
 pub mod Puts
 pub mod Changes
 pub mod ListCode

@@ -1,9 +1,9 @@
 -- What single rows of the set are before and after, and the rows of one master.
 use Prim.Native.Nat.{ℕ, _+_, _-_, _≤_, _<_}
 use mathlib.Core.Path.{_≡_}
-use mathlib.Core.List.{List, [], _∷_}
+use mathlib.Core.List.{List, []}
 use lib.IntN.{ℤ}
-use lib.ListN.{length, getD, set}
+use lib.ListN.{length, getD}
 use Rattle.matching.specs.declared.Range.{Range}
 use Rattle.matching.specs.declared.Spans.{Spans}
 use Rattle.matching.specs.Definitions.Nodes.{Master, Node, Reordered}
@@ -14,12 +14,7 @@ use Rattle.matching.specs.Definitions.Sizes.{nodeRows, setRows}
 use Rattle.tables.specs.Definitions.Sizes.{tableSize}
 use Rattle.tables.specs.Definitions.Tables.{nodesIn, GoodNodes}
 use Rattle.stability.specs.Barred.{Patched}
-
--- The three columns of a set have a place for each row.
-pub record Columns (ns : List ℕ) (at : List (List ℤ)) (cs : List ℕ) : Type 0 where
-  pub numbers : length ns ≡ setRows
-  pub positions : length at ≡ setRows
-  pub capacities : length cs ≡ setRows
+use Rattle.load.specs.Load.{Columns}
 
 -- Row k is the first of the range with the number z, or its end where none has it.
 pub record Found (r : Range) (ns : List ℕ) (z k : ℕ) : Type 0 where
@@ -27,16 +22,6 @@ pub record Found (r : Range) (ns : List ℕ) (z k : ℕ) : Type 0 where
   pub high : k ≤ r .to
   pub is : k < r .to → getD ns k 0 ≡ z
   pub before : (j : ℕ) → r .from ≤ j → j < k → getD ns j 0 ≡ z → ⊥
-
--- Row i is written: number n, position p, capacity c.
-pub record Written (i n : ℕ) (p : List ℤ) (c : ℕ) (ns : List ℕ) (at : List (List ℤ)) (cs ns' : List ℕ) (at' : List (List ℤ)) (cs' : List ℕ) : Type 0 where
-  pub number : ns' ≡ set ns i n
-  pub position : at' ≡ set at i p
-  pub capacity : cs' ≡ set cs i c
-
--- The node v is written into row i.
-abbrev pub Stored : Node → ℕ → List ℕ → List (List ℤ) → List ℕ → List ℕ → List (List ℤ) → List ℕ → Type 0
-Stored v i = Written i (v .number) (v .x ∷ v .y ∷ []) (v .capacity)
 
 -- The nodes of the rows from first to end.
 abbrev pub nodesBetween : ℕ → ℕ → List ℕ → List (List ℤ) → List ℕ → List Node

@@ -7,7 +7,7 @@ ghost use Rattle.update.specs.Rows.{Outdated, Current};
 use super::rows::fill;
 use super::rows::find;
 use super::rows::redirect;
-use super::rows::store;
+use load::decode::store;
 use matching::Range;
 use tables::find::row_of;
 use tables::sizes::NODES;

@@ -1,20 +1,12 @@
-// Single rows of the set: looked for, written, and filled by another.
-ghost use Prim.Native.Nat.{_*_, _≤_, _<_};
+// Single rows of the set: looked for, and filled by another.
+ghost use Prim.Native.Nat.{_≤_, _<_};
 ghost use mathlib.Core.Path.{_≡_};
 ghost use mathlib.Core.List.{[]};
 ghost use lib.ListN.{length, getD, set};
-ghost use Rattle.matching.specs.Definitions.Sizes.{nodeRows, setRows};
-ghost use Rattle.tables.specs.Definitions.Sizes.{nodeSize, tableSize};
-ghost use Rattle.tables.specs.Definitions.Tables.{nodeFrom};
-ghost use Rattle.update.specs.Rows.{Columns, Found, Written, Stored};
+ghost use Rattle.matching.specs.Definitions.Sizes.{setRows};
+ghost use Rattle.load.specs.Load.{Columns, Written};
+ghost use Rattle.update.specs.Rows.{Found};
 use matching::Range;
-use tables::faults::row_number;
-use tables::fields::position_at;
-use tables::fields::two_at;
-use tables::sizes::NODE;
-use tables::sizes::NODE_CAPACITY;
-use tables::sizes::NODE_X;
-use tables::sizes::NODE_Y;
 
 // The row of the range that has the number z, or the range's end.
 pub fn find(r: Range, ns: &[u32], z: u32) -> usize
@@ -29,20 +21,6 @@ pub fn find(r: Range, ns: &[u32], z: u32) -> usize
         k += 1;
     }
     k
-}
-
-// Writes the node of the table's row k into row i.
-pub fn store(t: &[u8], k: usize, i: usize, ns: &mut [u32], at: &mut [[i16; 2]], cs: &mut [u32])
-    requires { ⌜ (length (now t) ≡ tableSize) × (k < nodeRows) × (i < setRows) × Columns (now ns) (now at) (now cs) ⌝ }
-    ensures { λ _. ⌜ Stored (nodeFrom (now (t .entry)) (nodeSize * k)) i
-        (now (ns .entry)) (now (at .entry)) (now (cs .entry)) (now (ns .exit)) (now (at .exit)) (now (cs .exit)) ⌝ }
-{
-    ns[i] = row_number(t, k);
-    at[i] = [
-        position_at(t, NODE * k + NODE_X),
-        position_at(t, NODE * k + NODE_Y),
-    ];
-    cs[i] = two_at(t, NODE * k + NODE_CAPACITY);
 }
 
 // Copies row `last`, with its limit, into another.

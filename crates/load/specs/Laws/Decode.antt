@@ -15,9 +15,9 @@ use Rattle.matching.specs.Definitions.Rows.{across, upward, nodeIn}
 use Rattle.matching.specs.Laws.Columns.{tabulate-length, tabulate-cong, tabulate-snoc}
 use Rattle.tables.specs.Definitions.Sizes.{nodeSize}
 use Rattle.tables.specs.Definitions.Tables.{nodeFrom, rowNumber, nodesFrom, nodesIn}
-use Rattle.tables.specs.Laws.Decode.{nodes-end, nodes-next, nodes-full}
+use Rattle.tables.specs.Laws.Nodes.{nodes-end, nodes-next, nodes-full}
 use Rattle.packing.specs.Packed.{Same, Packed}
-use Rattle.load.specs.Load.{Columns, Stored, Decoded}
+use Rattle.load.specs.Load.{Columns, Written, Stored, Decoded}
 
 -- A row that is as it was denotes the same node.
 pub same-node : {k : ℕ} {ns : List ℕ} {at : List (List ℤ)} {cs ns' : List ℕ} {at' : List (List ℤ)} {cs' : List ℕ} → Same k ns at cs ns' at' cs'
@@ -29,33 +29,32 @@ same-then : {k : ℕ} {ns : List ℕ} {at : List (List ℤ)} {cs ns' : List ℕ}
     → Same k ns at cs ns' at' cs' → Same k ns' at' cs' ns'' at'' cs'' → Same k ns at cs ns'' at'' cs''
 same-then p q = record { number = q .number ∙ p .number; position = q .position ∙ p .position; capacity = q .capacity ∙ p .capacity }
 
-module _ {v : Node} {i : ℕ} {ns : List ℕ} {at : List (List ℤ)} {cs ns' : List ℕ} {at' : List (List ℤ)} {cs' : List ℕ}
-    (s : Stored v i ns at cs ns' at' cs') where
-  pub stored-columns : Columns ns at cs → Columns ns' at' cs'
-  stored-columns c = record {
-    numbers = ap length (s .number) ∙ length-set ns i (v .number) ∙ c .numbers;
-    positions = ap length (s .position) ∙ length-set at i (v .x ∷ v .y ∷ []) ∙ c .positions;
-    capacities = ap length (s .capacity) ∙ length-set cs i (v .capacity) ∙ c .capacities;
+module _ {i n : ℕ} {p : List ℤ} {c : ℕ} {ns : List ℕ} {at : List (List ℤ)} {cs ns' : List ℕ} {at' : List (List ℤ)} {cs' : List ℕ}
+    (w : Written i n p c ns at cs ns' at' cs') where
+  pub written-columns : Columns ns at cs → Columns ns' at' cs'
+  written-columns s = record {
+    numbers = ap length (w .number) ∙ length-set ns i n ∙ s .numbers;
+    positions = ap length (w .position) ∙ length-set at i p ∙ s .positions;
+    capacities = ap length (w .capacity) ∙ length-set cs i c ∙ s .capacities;
   }
 
-  -- The row denotes the node,
-  pub stored-node : Columns ns at cs → i < setRows → nodeIn ns' at' cs' i ≡ v
-  stored-node c h =
-      let p : getD at' i [] ≡ v .x ∷ v .y ∷ [] =
-      ap (λ (l : List (List ℤ)). getD l i []) (s .position) ∙ getD-set-same at i (v .x ∷ v .y ∷ []) [] (omega (arith, c .positions)) in
+  -- The row denotes what is written,
+  pub written-node : Columns ns at cs → i < setRows → nodeIn ns' at' cs' i ≡ record { number = n; x = across p; y = upward p; capacity = c }
+  written-node s h =
+      let q : getD at' i [] ≡ p = ap (λ (l : List (List ℤ)). getD l i []) (w .position) ∙ getD-set-same at i p [] (omega (arith, s .positions)) in
       λ t. record {
-        number = (ap (λ (l : List ℕ). getD l i 0) (s .number) ∙ getD-set-same ns i (v .number) 0 (omega (arith, c .numbers))) t;
-        x = across (p t);
-        y = upward (p t);
-        capacity = (ap (λ (l : List ℕ). getD l i 0) (s .capacity) ∙ getD-set-same cs i (v .capacity) 0 (omega (arith, c .capacities))) t;
+        number = (ap (λ (l : List ℕ). getD l i 0) (w .number) ∙ getD-set-same ns i n 0 (omega (arith, s .numbers))) t;
+        x = across (q t);
+        y = upward (q t);
+        capacity = (ap (λ (l : List ℕ). getD l i 0) (w .capacity) ∙ getD-set-same cs i c 0 (omega (arith, s .capacities))) t;
       }
 
   -- and the others are as they were.
-  pub stored-other : (k : ℕ) → (k ≡ i → ⊥) → Same k ns at cs ns' at' cs'
-  stored-other k h = record {
-    number = ap (λ (l : List ℕ). getD l k 0) (s .number) ∙ getD-set-other ns i k (v .number) 0 h;
-    position = ap (λ (l : List (List ℤ)). getD l k []) (s .position) ∙ getD-set-other at i k (v .x ∷ v .y ∷ []) [] h;
-    capacity = ap (λ (l : List ℕ). getD l k 0) (s .capacity) ∙ getD-set-other cs i k (v .capacity) 0 h;
+  pub written-apart : (k : ℕ) → (k ≡ i → ⊥) → Same k ns at cs ns' at' cs'
+  written-apart k h = record {
+    number = ap (λ (l : List ℕ). getD l k 0) (w .number) ∙ getD-set-other ns i k n 0 h;
+    position = ap (λ (l : List (List ℤ)). getD l k []) (w .position) ∙ getD-set-other at i k p [] h;
+    capacity = ap (λ (l : List ℕ). getD l k 0) (w .capacity) ∙ getD-set-other cs i k c 0 h;
   }
 
 -- The nodes stored so far, k of them, and those from the table's row k on.
@@ -98,19 +97,19 @@ module _ {t : List ℕ} {from : ℕ} {ns : List ℕ} {at : List (List ℤ)} {cs 
       more =
           rw (add-one k)
           (tabulate-snoc (nodeIn ns'' at'' cs'') from k
-          ∙ ap (λ (w : Node). tabulate (nodeIn ns'' at'' cs'') from k ++ (w ∷ [])) (stored-node s (p .columns) (omega arith))
+          ∙ ap (λ (w : Node). tabulate (nodeIn ns'' at'' cs'') from k ++ (w ∷ [])) (written-node s (p .columns) (omega arith))
           ∙ ap (λ (A : List Node). A ++ (nodeFrom t (nodeSize * k) ∷ []))
-          (tabulate-cong (nodeIn ns'' at'' cs'') (nodeIn ns' at' cs') from k (λ j a b. same-node (stored-other s j (λ d. omega arith)))))
+          (tabulate-cong (nodeIn ns'' at'' cs'') (nodeIn ns' at' cs') from k (λ j a b. same-node (written-apart s j (λ d. omega arith)))))
 
       pub progress-more : Progress t from (k + 1) ns at cs ns'' at'' cs''
       progress-more = record {
-        columns = stored-columns s (p .columns);
+        columns = written-columns s (p .columns);
         most = omega arith;
         nodes = p .nodes
             ∙ ap (λ (A : List Node). rows ++ A) (nodes-next t k h e)
             ∙ sym (append-assoc rows (nodeFrom t (nodeSize * k) ∷ []) (nodesFrom t (k + 1) (nodeRows - (k + 1))))
             ∙ ap (λ (A : List Node). A ++ nodesFrom t (k + 1) (nodeRows - (k + 1))) (sym more);
-        apart = λ j g. same-then (p .apart j (λ a b. g a (omega arith))) (stored-other s j (λ d. g (omega arith) (omega arith)));
+        apart = λ j g. same-then (p .apart j (λ a b. g a (omega arith))) (written-apart s j (λ d. g (omega arith) (omega arith)));
       }
 
 -- What is decoded and put in order is decoded.

@@ -1,23 +1,24 @@
 -- Tables in the set: what their rows denote.
-use Prim.Native.Nat.{ℕ, zero, suc, _+_, _-_, _≤_, _<_}
+use Prim.Native.Nat.{ℕ, _+_, _-_, _≤_}
 use mathlib.Core.Path.{_≡_, refl, sym, _∙_, ap, subst}
 use mathlib.Core.List.{List}
 use native.Mathlib.Omega.{arith}
 use lib.IntN.{ℤ}
 use lib.ListN.{length, getD}
+use Rattle.matching.specs.declared.Range.{Range}
 use Rattle.matching.specs.declared.Spans.{Spans}
-use Rattle.matching.specs.Definitions.Nodes.{Master, masterA, masterB, each, Node, Unique, Reordered}
+use Rattle.matching.specs.Definitions.Nodes.{Master, masterA, masterB, each, Node, Reordered}
 use Rattle.matching.specs.Definitions.Columns.{tabulate}
 use Rattle.matching.specs.Definitions.Sizes.{nodeRows, half, setRows}
 use Rattle.matching.specs.Definitions.Rows.{range, On, nodeIn, nodesOn, Represents}
 use Rattle.matching.specs.Laws.Lists.{all-at}
-use Rattle.matching.specs.Laws.Columns.{tabulate-get, tabulate-all, tabulate-cong, same-place}
-use Rattle.matching.specs.Laws.Sets.{on-in, on-length}
+use Rattle.matching.specs.Laws.Columns.{tabulate-get, tabulate-cong, same-place}
+use Rattle.matching.specs.Laws.Sets.{tabulate-unique, on-in, on-length}
 use Rattle.matching.specs.Theorems.RowOrder.{reordered-all, reordered-unique, reordered-back}
 use Rattle.tables.specs.Definitions.Tables.{nodesIn, Accepted, GoodNode, GoodNodes}
 use Rattle.tables.specs.Laws.Accepted.{room as few, nodes-good}
-use Rattle.load.specs.Load.{Decoded, Loaded}
-use Rattle.load.specs.Index.{Distinct, Named}
+use Rattle.load.specs.Load.{Columns, Decoded, Loaded}
+use Rattle.load.specs.Index.{Named}
 use Rattle.load.specs.Laws.Decode.{same-node}
 
 -- One table below half and one from there on: the second leaves the rows of the first as they are.
@@ -67,38 +68,37 @@ loaded {a} {b} {n} {m} {ns' = ns'} {at' = at'} {cs' = cs'} {ns'' = ns''} {at'' =
     nodes masterA = unfold nodesOn in subst (λ (A : List Node). Reordered (nodesIn a) A) (kept ∙ ap (tabulate (nodeIn ns'' at'' cs'') 0) size-a) (p .nodes)
     nodes masterB = unfold nodesOn in subst (λ (A : List Node). Reordered (nodesIn b) A) (ap (tabulate (nodeIn ns'' at'' cs'') half) size-b) (q .nodes)
 
--- Nodes in rows of distinct numbers.
-rows-unique : (ns : List ℕ) (at : List (List ℤ)) (cs : List ℕ) (k n : ℕ)
-    → ((i j : ℕ) → k ≤ i → i < k + n → k ≤ j → j < k + n → getD ns i 0 ≡ getD ns j 0 → i ≡ j) → Unique (tabulate (nodeIn ns at cs) k n)
-unfolding tabulate
-rows-unique ns at cs k zero h = tt
-rows-unique ns at cs k (suc n) h = (
-  tabulate-all (λ w. getD ns k 0 ≡ w .number → ⊥) (nodeIn ns at cs) (suc k) n
-      (λ i l g e. omega (arith, h k i (omega arith) (omega arith) (omega arith) (omega arith) e)),
-  rows-unique ns at cs (suc k) n (λ i j a b c d e. h i j (omega arith) (omega arith) (omega arith) (omega arith) e),
-)
+-- Rows of a table's nodes have their numbers.
+rows-named : {t ns : List ℕ} {at : List (List ℤ)} {cs : List ℕ} {r : Range} → Columns ns at cs → r .to ≤ setRows → r .to ≡ r .from + length (nodesIn t)
+    → Reordered (nodesIn t) (tabulate (nodeIn ns at cs) (r .from) (r .to - r .from)) → Named t r ns
+rows-named {t} {ns} {at} {cs} {r} columns end count nodes = record {
+  room = columns .numbers;
+  order = omega (arith, count);
+  most = omega (arith, count, few t);
+  end = end;
+  count = count;
+  unique = λ d.
+      reordered-unique (reordered-back nodes)
+      (tabulate-unique (nodeIn ns at cs) (r .from) (r .to - r .from)
+      (λ i j a b c e. d i j a (omega (arith, count)) c (omega (arith, count))));
+}
+
+-- So do those of a table alone.
+pub decoded-named : {t : List ℕ} {n : ℕ} {ns : List ℕ} {at : List (List ℤ)} {cs ns' : List ℕ} {at' : List (List ℤ)} {cs' : List ℕ}
+    → Decoded t 0 n ns at cs ns' at' cs' → Named t (record { from = 0; to = n }) ns'
+decoded-named {t} {n} {ns' = ns'} {at' = at'} {cs' = cs'} d =
+    let e : n ≡ n - 0 = omega arith in
+    rows-named (d .columns) (omega (arith, d .most)) (omega (arith, d .count))
+    (subst (λ (k : ℕ). Reordered (nodesIn t) (tabulate (nodeIn ns' at' cs') 0 k)) e (d .nodes))
 
 module _ {a b ns : List ℕ} {at : List (List ℤ)} {cs : List ℕ} {s : Spans} (l : Loaded a b ns at cs s) where
   -- A master's range has the numbers of its table.
   pub loaded-named : (m : Master) → Named (each a b m) (range s m) ns
-  loaded-named m = record {
-    room = l .columns .numbers;
-    order = omega (arith, l .count m);
-    most = omega (arith, l .count m, few (each a b m));
-    end = end m;
-    count = l .count m;
-    unique = λ d. reordered-unique (reordered-back (l .nodes m)) (unique d);
-  }
+  loaded-named m = rows-named (l .columns) (end m) (l .count m) (unfold nodesOn in l .nodes m)
     where
       end : (m : Master) → range s m .to ≤ setRows
       end masterA = omega (arith, l .spans .below)
       end masterB = l .spans .end
-
-      unique : Distinct (range s m) ns → Unique (nodesOn s ns at cs m)
-      unique d =
-          unfold nodesOn in
-          rows-unique ns at cs (range s m .from) (range s m .to - range s m .from)
-          (λ i j a b c e. d i j a (omega (arith, l .count m)) c (omega (arith, l .count m)))
 
   -- Accepted tables are represented by their rows.
   pub loaded-represents : Accepted a → Accepted b → Represents (nodesIn a) (nodesIn b) ns at cs s

@@ -1,13 +1,13 @@
 -- Laws of nodes and links in rows.
-use Prim.Native.Nat.{ℕ, zero, suc, _+_, _-_, _*_, _≤_, _<_}
-use mathlib.Core.Path.{_≡_, sym, _∙_, ap}
+use Prim.Native.Nat.{ℕ, zero, suc, _+_, _-_, _≤_, _<_}
+use mathlib.Core.Path.{_≡_, ap}
 use mathlib.Core.List.{List, [], _∷_, _++_, List·Memᴰ, List·Memᴰ·head, List·Memᴰ·tail}
 use native.Mathlib.Nat.{zero-add}
 use native.Mathlib.Numerals.{add-one}
 use native.Mathlib.Decide.{ℕ-discrete}
 use native.Mathlib.Omega.{arith}
 use lib.IntN.{ℤ, pos, negsuc, natAbs}
-use lib.ListN.{length, getD, set}
+use lib.ListN.{length, set}
 use lib.Seq.{getD-set-same, getD-set-other}
 use mir.Syntax.{w16}
 use mir.Val.{toZ, ofZ, SFits}
@@ -18,11 +18,11 @@ use Rattle.matching.specs.Definitions.Nodes.{Master, Node, Unique}
 use Rattle.matching.specs.Definitions.Links.{Link}
 use Rattle.matching.specs.Definitions.Columns.{tabulate, edge, Inside}
 use Rattle.matching.specs.Definitions.Rows.{range, On, xAt, yAt, gap, nodeIn, nodesOn, linkOf, linkIn, linksIn, Fit}
-use Rattle.matching.specs.Laws.Columns.{tabulate-length, tabulate-get, tabulate-all, tabulate-cong, tabulate-snoc}
+use Rattle.matching.specs.Laws.Columns.{tabulate-length, tabulate-all, tabulate-cong, tabulate-snoc}
 use Rattle.matching.specs.Laws.Distance.{distance-swap, inside-reach, distance-fits}
 
 -- Two bytes hold a position inside, and it is read back from them.
-pub inside-fits : (z : ℤ) → natAbs z ≤ edge → SFits w16 z
+inside-fits : (z : ℤ) → natAbs z ≤ edge → SFits w16 z
 inside-fits (pos n) h = record { sfits = omega arith }
 inside-fits (negsuc n) h = record { sfits = omega arith }
 
@@ -59,7 +59,7 @@ tabulate-in f k (suc n) i l h = go (ℕ-discrete i k) (λ g. tabulate-in f (suc 
     go (yes e) rest = List·Memᴰ·head (ap f e)
     go (no e) rest = List·Memᴰ·tail (rest (omega arith))
 
-tabulate-unique : (f : ℕ → Node) (k n : ℕ) → ((i j : ℕ) → k ≤ i → i < k + n → k ≤ j → j < k + n → f i .number ≡ f j .number → i ≡ j) → Unique (tabulate f k n)
+pub tabulate-unique : (f : ℕ → Node) (k n : ℕ) → ((i j : ℕ) → k ≤ i → i < k + n → k ≤ j → j < k + n → f i .number ≡ f j .number → i ≡ j) → Unique (tabulate f k n)
 unfolding tabulate
 tabulate-unique f k zero h = tt
 tabulate-unique f k (suc n) h = (

@@ -1,26 +1,22 @@
 -- Bands over the distances alone, and how code counts them.
-use Prim.Native.Nat.{ℕ, zero, suc, _+_, _<_, _≤_}
+use Prim.Native.Nat.{ℕ, suc, _+_, _<_, _≤_}
 use mathlib.Core.Path.{_≡_, refl, sym, _∙_, ap}
 use mathlib.Core.Bool.{Bool, true, false, cond}
-use mathlib.Core.List.{List, [], _∷_, _++_, map}
+use mathlib.Core.List.{List, [], _∷_}
 use native.Mathlib.Decide.{ℕ-discrete}
 use native.Mathlib.Nat.{zero-add}
 use native.Mathlib.Omega.{arith}
 use lib.Dec.{eqb}
-use lib.ListN.{length, getD, take, set, replicate, length-set, length-replicate, getD-replicate}
+use lib.ListN.{length, getD, set, replicate, length-set, length-replicate, getD-replicate}
 use lib.Seq.{getD-set-same, getD-set-other, ext-getD}
 use borrow.Author.Tests.{eq-eqb, ne-eqb}
 use Rattle.matching.specs.Definitions.Lists.{sumOver}
-use Rattle.matching.specs.Definitions.Links.{Link}
-use Rattle.matching.specs.Definitions.Columns.{tabulate, linksOf}
+use Rattle.matching.specs.Definitions.Columns.{tabulate}
 use Rattle.matching.specs.Laws.Columns.{tabulate-length, tabulate-get}
-use Rattle.tables.specs.Definitions.Sizes.{countSize, bandCount}
-use Rattle.tables.specs.Definitions.Fields.{natBytes}
-use Rattle.tables.specs.Definitions.Rows.{flat}
-use Rattle.tables.specs.Definitions.Bands.{binaryDigits, band, bandsFrom, bandBytes}
-use Rattle.tables.specs.Laws.LinkFields.{link-fields}
+use Rattle.tables.specs.Definitions.Sizes.{bandCount}
+use Rattle.tables.specs.Definitions.Bands.{binaryDigits}
 
--- How many distances have k binary digits, these counts for each k, and their bytes.
+-- How many distances have k binary digits, and these counts for each k.
 unfoldable pub bandIn : List ℕ → ℕ → ℕ
 unfolding sumOver
 bandIn ds k = sumOver (λ (d : ℕ). cond (eqb (binaryDigits d) k) 1 0) ds
@@ -28,27 +24,6 @@ bandIn ds k = sumOver (λ (d : ℕ). cond (eqb (binaryDigits d) k) 1 0) ds
 unfoldable pub bandCounts : List ℕ → List ℕ
 unfolding tabulate bandIn
 bandCounts ds = tabulate (bandIn ds) 0 bandCount
-
-unfoldable pub bandsOf : List ℕ → List ℕ
-unfolding flat bandCounts
-bandsOf ds = flat (natBytes countSize) (bandCounts ds)
-
--- They are those of the links.
-band-fields : (K : List Link) (k : ℕ) → bandIn (map (λ (l : Link). l .distance) K) k ≡ band K k
-unfolding bandIn band sumOver
-band-fields [] k = refl
-band-fields (l ∷ K) k = ap (λ (m : ℕ). cond (eqb (binaryDigits (l .distance)) k) 1 0 + m) (band-fields K k)
-
-bands-fields : (K : List Link) (n k : ℕ) → flat (natBytes countSize) (tabulate (bandIn (map (λ (l : Link). l .distance) K)) k n) ≡ bandsFrom K k n
-unfolding tabulate flat bandsFrom
-bands-fields K zero k = refl
-bands-fields K (suc n) k = λ i. natBytes countSize (band-fields K k i) ++ bands-fields K n (suc k) i
-
-pub bands-links : (la lb ld lm : List ℕ) (n : ℕ) → n ≤ length ld → bandsOf (take n ld) ≡ bandBytes (linksOf la lb ld lm n)
-unfolding bandsOf bandCounts bandBytes
-bands-links la lb ld lm n h =
-    ap bandsOf (sym (link-fields la lb ld lm (λ (l : Link). l .distance) ld (λ i. refl) n h))
-    ∙ bands-fields (linksOf la lb ld lm n) bandCount 0
 
 counts-length : (ds : List ℕ) → length (bandCounts ds) ≡ bandCount
 unfolding bandCounts

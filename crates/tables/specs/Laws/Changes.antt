@@ -1,5 +1,5 @@
 -- What an edit asks for, as code holds it, and when it can be applied to a table.
-use Prim.Native.Nat.{ℕ, _+_, _-_, _*_, _<_}
+use Prim.Native.Nat.{ℕ, _+_, _*_, _<_}
 use mathlib.Core.Path.{_≡_, refl, sym, _∙_, ap}
 use mathlib.Core.Bool.{Bool, true, false, cond, _&&_}
 use mathlib.Core.List.{List}
@@ -44,7 +44,7 @@ stays d e f a = let t : true ≡ arrives d = ap arrives (sym a ∙ e) in let z :
 
 -- By kind as by change.
 module _ (k : ℕ) where
-  pub of-kind : {X : Type 0} (p q r s : X) → ofKind k p q r s ≡ ofChange (changeOf k) p q r s
+  of-kind : {X : Type 0} (p q r s : X) → ofKind k p q r s ≡ ofChange (changeOf k) p q r s
   unfolding changeOf
   of-kind p q r s = go (eqb k 1) (eqb k 2) (eqb k 3)
     where

@@ -7,24 +7,20 @@ use mathlib.Core.List.{List}
 use native.Mathlib.Numerals.{add-one}
 use native.Mathlib.Omega.{arith}
 use lib.Dec.{eqb}
-use lib.ListN.{length, getD, take, drop, List·getD-eq-default}
+use lib.ListN.{length, getD, take, drop}
 use lib.Seq.{getD-take, getD-drop, ext-getD}
 use borrow.Author.Tests.{eq-eqb, eqb-true, not-false}
-use Rattle.matching.specs.Definitions.Lists.{All}
 use Rattle.matching.specs.Definitions.Links.{Link, sameLink, common}
-use Rattle.matching.specs.Definitions.Columns.{tabulate, linkAt, linksOf}
-use Rattle.matching.specs.Laws.Columns.{tabulate-length, tabulate-get}
+use Rattle.matching.specs.Definitions.Columns.{tabulate}
 use Rattle.matching.specs.Laws.Common.{same-link, link-same}
 use Rattle.tables.specs.declared.compare.Difference.{Difference}
 use Rattle.tables.specs.declared.compare.Difference.the-variants.{None, Row}
 use Rattle.tables.specs.Definitions.Sizes.{numberSize, distanceSize, amountSize, linkB, linkDistance, linkAmount, linkSize, linkRows, listSize}
 use Rattle.tables.specs.Definitions.Fields.{Bytes, natAt}
-use Rattle.tables.specs.Definitions.Rows.{flat, padded, allFrom}
-use Rattle.tables.specs.Definitions.Lists.{linkBytes, listBytes, linkFrom, differs, firstDifference}
+use Rattle.tables.specs.Definitions.Rows.{allFrom}
+use Rattle.tables.specs.Definitions.Lists.{linkBytes, linkFrom, differs, firstDifference}
 use Rattle.tables.specs.Laws.Fields.{nat-zeros}
 use Rattle.tables.specs.Laws.Rows.{none-from, from-none, zeros, all-from, from-all}
-use Rattle.tables.specs.Laws.Lists.{GoodLink, list-length, list-bytes, link-at}
-use Rattle.tables.specs.Laws.ListCode.{Long}
 use Rattle.tables.specs.Laws.ListRead.{row-bytes}
 
 -- The place that a difference says.
@@ -35,13 +31,6 @@ placeOf (Row k) = some k
 -- The link of a zero row.
 abbrev pub noLink : Link
 noLink = record { a = 0; b = 0; distance = 0; amount = 0 }
-
--- What is asked to compare a list with the first n links of columns: the links fit their fields, as those of a join of accepted tables do.
-pub record Comparable (l la lb ld lm : List ℕ) (n : ℕ) : Type 0 where
-  pub size : length l ≡ listSize
-  pub room : n ≤ linkRows
-  pub long : Long la lb ld lm n
-  pub good : All GoodLink (linksOf la lb ld lm n)
 
 -- The same bytes are the same number.
 nat-same : (w : ℕ) (l f : List ℕ) (i : ℕ) → ((j : ℕ) → i ≤ j → j < i + w → getD l j 0 ≡ getD f j 0) → natAt w l i ≡ natAt w f i
@@ -86,7 +75,8 @@ module _ (l f : List ℕ) (i : ℕ) where
       go false e true d = sym e ∙ bytes-same bl bf hl hf (same-link (linkFrom l i) (linkFrom f i) d)
       go false e false d = refl
 
-zero-link : (m i : ℕ) → linkFrom (zeros m) i ≡ noLink
+-- Zero bytes are rows without a link.
+pub zero-link : (m i : ℕ) → linkFrom (zeros m) i ≡ noLink
 unfolding linkFrom
 zero-link m i = λ t. record {
   a = nat-zeros numberSize m i t;
@@ -94,37 +84,6 @@ zero-link m i = λ t. record {
   distance = nat-zeros distanceSize m (i + linkDistance) t;
   amount = nat-zeros amountSize m (i + linkAmount) t;
 }
-
--- So code compares a row's fields with the link of the columns, and with zeros behind their links.
-module _ (l la lb ld lm : List ℕ) (n k : ℕ) (b : Bytes l) (q : Comparable l la lb ld lm n) (low : k < linkRows) (t : Bool) where
-  abbrev K : List Link
-  K = linksOf la lb ld lm n
-
-  count : length K ≡ n
-  unfolding linksOf
-  count = tabulate-length (linkAt la lb ld lm) 0 n
-
-  row : linkFrom (listBytes K) (linkSize * k) ≡ getD K k noLink
-  unfolding listBytes padded
-  row = let m : ℕ = listSize - length (flat linkBytes K) in link-at K (zeros m) k noLink (q .good) (zero-link m)
-
-  row-differs : (v : Link) → getD K k noLink ≡ v → t ≡ sameLink (linkFrom l (linkSize * k)) v → not t ≡ differs l (listBytes K) k
-  unfolding differs
-  row-differs v at e =
-      ap not (e ∙ ap (sameLink (linkFrom l (linkSize * k))) (sym (row ∙ at))
-      ∙ sym (same-rows l (listBytes K) (linkSize * k) b (list-bytes K) (omega (arith, q .size)) (omega (arith, list-length K (omega (arith, q .room, count))))))
-
-  pub link-differs : k < n → t ≡ sameLink (linkFrom l (linkSize * k)) (linkAt la lb ld lm k) → not t ≡ differs l (listBytes K) k
-  link-differs i = row-differs (linkAt la lb ld lm k) (unfold linksOf in tabulate-get (linkAt la lb ld lm) 0 n k noLink i ∙ ap (linkAt la lb ld lm) first)
-    where
-      first : 0 + k ≡ k
-      first = omega arith
-
-  pub zeros-differ : n ≤ k → t ≡ sameLink (linkFrom l (linkSize * k)) noLink → not t ≡ differs l (listBytes K) k
-  zeros-differ i = row-differs noLink (List·getD-eq-default K noLink past)
-    where
-      past : length K ≤ k
-      past = omega (arith, count)
 
 -- Leading links in common, from row k on,
 abbrev pub commonFrom : (ℕ → Link) → (ℕ → Link) → ℕ → ℕ → ℕ → ℕ

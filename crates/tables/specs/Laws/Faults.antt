@@ -1,12 +1,15 @@
--- The search for a number among earlier rows, one row at a time.
+-- The search for a number among earlier rows, one row at a time; the rule of a faulty row; the first one.
 use Prim.Native.Nat.{ℕ, suc, _*_, _-_, _<_, _≤_}
-use mathlib.Core.Path.{_≡_, _∙_, ap}
+use mathlib.Core.Path.{_≡_, refl, _∙_, ap}
 use mathlib.Core.Bool.{true, false, not}
+use mathlib.Core.Option.{Option, none, some}
 use mathlib.Core.List.{List}
 use native.Mathlib.Omega.{arith}
 use borrow.Author.Tests.{eq-eqb, ne-eqb}
 use Rattle.tables.specs.Definitions.Tables.{rowNumber, fieldsGood, fieldsZero, standsBefore, faulty}
 use Rattle.tables.specs.Definitions.Sizes.{nodeSize}
+use Rattle.tables.specs.Definitions.Code.{faultOf}
+use Rattle.tables.specs.declared.faults.Fault.the-variants.{None, Row}
 
 module _ (t : List ℕ) (n j : ℕ) where
   pub stands-none : j ≤ 0 → standsBefore t j n ≡ false
@@ -42,3 +45,12 @@ module _ (t : List ℕ) (k : ℕ) where
     pub faulty-gap : fieldsGood t (nodeSize * k) ≡ true → standsBefore t k (rowNumber t k) ≡ false → standsBefore t k 0 ≡ faulty t k
     unfolding faulty
     faulty-gap e s = rw (ne-eqb (rowNumber t k) 0 n, e, s)
+
+-- The first faulty row, by cases.
+pub fault-row : (o : Option ℕ) (k : ℕ) → faultOf o ≡ Row k → o ≡ some k
+fault-row none k e = absurd (let z : _≡_ {A = ℕ} 0 1 = cc in omega arith)
+fault-row (some j) k e = let i : j ≡ k = cc in ap some i
+
+pub fault-none : (o : Option ℕ) → faultOf o ≡ None → o ≡ none
+fault-none none e = refl
+fault-none (some j) e = absurd (let z : _≡_ {A = ℕ} 0 1 = cc in omega arith)

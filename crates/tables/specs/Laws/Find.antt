@@ -11,7 +11,7 @@ use Rattle.matching.specs.Definitions.Nodes.{Node, has, place, capacityOf}
 use Rattle.tables.specs.Definitions.Sizes.{capacitySize, nodeCapacity, nodeSize, nodeRows}
 use Rattle.tables.specs.Definitions.Fields.{natAt}
 use Rattle.tables.specs.Definitions.Tables.{nodeFrom, rowNumber, nodesFrom, nodesIn}
-use Rattle.tables.specs.Laws.Decode.{nodes-end, nodes-next, nodes-full}
+use Rattle.tables.specs.Laws.Nodes.{nodes-end, nodes-next, nodes-full}
 
 -- Row r is that of the first node with the number n; it is the number of rows where no node has it.
 pub record RowOf (t : List ℕ) (n r : ℕ) : Type 0 where

@@ -1,4 +1,4 @@
--- Columns of links written as a list: what the loops of code keep, and what comes of it.
+-- Links written as a list: what the loops of code keep, and what comes of it.
 use Prim.Native.Nat.{ℕ, suc, _+_, _*_, _-_, _<_, _≤_}
 use mathlib.Core.Path.{_≡_, sym, _∙_, ap, ap₂}
 use mathlib.Core.Bool.{Bool, true, false, cond}
@@ -19,13 +19,6 @@ use Rattle.tables.specs.Definitions.Lists.{linkBytes, listBytes}
 use Rattle.tables.specs.Laws.Fields.{nat-length}
 use Rattle.tables.specs.Laws.Rows.{zeros, flat-append, put-none, put-cons, put-length, put-put}
 use Rattle.tables.specs.Laws.Lists.{link-length, links-length}
-
--- Columns that hold at least n links.
-pub record Long (la lb ld lm : List ℕ) (n : ℕ) : Type 0 where
-  pub a : n ≤ length la
-  pub b : n ≤ length lb
-  pub distance : n ≤ length ld
-  pub amount : n ≤ length lm
 
 -- A part of a list from i on, lent and come back as ys.
 pub tail-back : (i : ℕ) (xs ys : List ℕ) → i ≤ length xs → putMid i (length xs - i) xs ys ≡ take i xs ++ ys

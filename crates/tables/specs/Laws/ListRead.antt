@@ -1,19 +1,17 @@
--- A list read into columns, and the list that is the bytes of its links.
+-- The links of a list row by row, and the list that is the bytes of its links.
 use Prim.Native.Nat.{ℕ, zero, suc, _+_, _*_, _-_, _<_, _≤_}
 use mathlib.Core.Path.{_≡_, refl, sym, _∙_, ap, ap₂}
 use mathlib.Core.Bool.{true}
-use mathlib.Core.List.{List, [], _∷_, _++_, append-assoc, append-nil}
+use mathlib.Core.List.{List, [], _∷_, _++_, append-nil}
 use native.Mathlib.Numerals.{add-one}
 use native.Mathlib.Omega.{arith}
 use lib.Dec.{eqb}
-use lib.ListN.{length, getD, take, drop, set, length-drop, length-replicate, take-append-drop}
+use lib.ListN.{length, getD, take, drop, length-drop, length-replicate, take-append-drop}
 use lib.Seq.{getD-drop, ext-getD}
 use mir.Syntax.{w8}
 use mir.Val.{Fits}
 use borrow.Author.Tests.{eq-eqb, ne-eqb, eqb-true}
 use Rattle.matching.specs.Definitions.Links.{Link}
-use Rattle.matching.specs.Definitions.Columns.{linksOf}
-use Rattle.matching.specs.Laws.Columns.{links-more}
 use Rattle.tables.specs.Definitions.Sizes.{numberSize, distanceSize, amountSize, linkB, linkDistance, linkAmount, linkSize, linkRows, listSize}
 use Rattle.tables.specs.Definitions.Fields.{Bytes, natAt}
 use Rattle.tables.specs.Definitions.Rows.{flat, padded}
@@ -22,15 +20,6 @@ use Rattle.tables.specs.Laws.Fields.{getD-zeros, four-read}
 use Rattle.tables.specs.Laws.Rows.{zeros, from-all}
 use Rattle.tables.specs.Laws.RowsRead.{rows-written}
 use Rattle.tables.specs.Laws.Lists.{links-length, links-zero, links-suc}
-
--- What the columns hold after the list was read into them, r links.
-pub record LinksRead (l la lb ld lm : List ℕ) (r : ℕ) : Type 0 where
-  pub room : r ≤ linkRows
-  pub a : length la ≡ linkRows
-  pub b : length lb ≡ linkRows
-  pub distance : length ld ≡ linkRows
-  pub amount : length lm ≡ linkRows
-  pub links : linksOf la lb ld lm r ≡ linksIn l
 
 -- A lent slice of bytes, from what is known of its elements.
 pub bytes-known : (l : List ℕ) → ((i : ℕ) → Fits w8 (getD l i 0)) → Bytes l
@@ -53,21 +42,6 @@ links-last l k h = let e : linkRows - k ≡ 0 = omega arith in rw e
 pub links-on : (l : List ℕ) (k : ℕ) → k < linkRows → (natAt numberSize l (linkSize * k) ≡ 0 → ⊥) → linksFrom l k (linkRows - k) ≡ linkFrom l (linkSize * k) ∷ linksFrom l (k + 1) (linkRows - (k + 1))
 unfolding linksFrom
 links-on l k h z = let e : linkRows - k ≡ suc (linkRows - (k + 1)) = omega arith in rw (e, ne-eqb (natAt numberSize l (linkSize * k)) 0 z, add-one k)
-
--- A link read into the columns.
-pub link-more : (l la lb ld lm : List ℕ) (W : List Link) (k a b d m : ℕ) → k < linkRows → (natAt numberSize l (linkSize * k) ≡ 0 → ⊥)
-    → (length la ≡ linkRows) × (length lb ≡ linkRows) × (length ld ≡ linkRows) × (length lm ≡ linkRows)
-    → record { a = a; b = b; distance = d; amount = m } ≡ linkFrom l (linkSize * k)
-    → linksOf la lb ld lm k ++ linksFrom l k (linkRows - k) ≡ W
-    → linksOf (set la k a) (set lb k b) (set ld k d) (set lm k m) (k + 1) ++ linksFrom l (k + 1) (linkRows - (k + 1)) ≡ W
-link-more l la lb ld lm W k a b d m h z c v e =
-    ap (λ (K : List Link). K ++ rest) (links-more la lb ld lm k a b d m (omega arith) (omega arith) (omega arith) (omega arith))
-    ∙ append-assoc (linksOf la lb ld lm k) (record { a = a; b = b; distance = d; amount = m } ∷ []) rest
-    ∙ ap (λ (K : List Link). linksOf la lb ld lm k ++ K) (ap (λ (j : Link). j ∷ rest) v ∙ sym (links-on l k h z))
-    ∙ e
-  where
-    rest : List Link
-    rest = linksFrom l (k + 1) (linkRows - (k + 1))
 
 -- The whole is read.
 pub links-whole : (l : List ℕ) (K W : List Link) (k : ℕ) → linksFrom l k (linkRows - k) ≡ [] → K ++ linksFrom l k (linkRows - k) ≡ W → K ≡ W

@@ -23,16 +23,18 @@ use Rattle.tables.specs.Definitions.Sizes.{nodeSize}
 use Rattle.tables.specs.Definitions.Tables.{nodeFrom, nodesIn}
 use Rattle.tables.specs.Laws.Edited.{has-none}
 use Rattle.tables.specs.Laws.Find.{RowOf}
-use Rattle.tables.specs.Laws.Sound.{rows-at}
+use Rattle.tables.specs.Laws.Nodes.{rows-at}
 use Rattle.stability.specs.Barred.{Patched, fresh, moved}
-use Rattle.update.specs.Rows.{nodesBetween, Found, Written, Stored, Outdated, Same, Current}
+use Rattle.load.specs.Load.{Written, Stored}
+use Rattle.load.specs.Laws.Decode.{written-columns, written-node}
+use Rattle.update.specs.Rows.{nodesBetween, Found, Outdated, Same, Current}
 use Rattle.update.specs.Departures.{depart-absent}
 use Rattle.update.proofs.Laws.Lists.{put-first, depart-none, one-written, one-more, one-less}
-use Rattle.update.proofs.Laws.Written.{at-written, written-columns, written-node, written-same, same-node, same-patched, on-range}
+use Rattle.update.proofs.Laws.Written.{at-written, written-same, same-node, same-patched, on-range}
 
 -- The table's nodes are the node with the number z and the others;
 module _ {t : List ℕ} {z k : ℕ} (o : RowOf t z k) where
-  pub node-first : k < nodeRows → Reordered (nodesIn t) (nodeFrom t (nodeSize * k) ∷ depart z (nodesIn t))
+  node-first : k < nodeRows → Reordered (nodesIn t) (nodeFrom t (nodeSize * k) ∷ depart z (nodesIn t))
   unfolding nodesIn
   node-first h = go (split z (nodesIn t) (o .known ∙ lt-ltb k nodeRows h))
     where
@@ -46,7 +48,7 @@ module _ {t : List ℕ} {z k : ℕ} (o : RowOf t z k) where
           rw (s .departed, ← v) (subst (λ (A : List Node). Reordered A (s .v ∷ (s .A₁ ++ s .A₂))) (sym (s .is-list)) (put-first (s .A₁) (s .v) (s .A₂)))
 
   -- or it has none with that number.
-  pub none-departs : nodeRows ≤ k → depart z (nodesIn t) ≡ nodesIn t
+  none-departs : nodeRows ≤ k → depart z (nodesIn t) ≡ nodesIn t
   none-departs h = depart-absent z (nodesIn t) (has-none z (nodesIn t) (o .known ∙ le-ltb k nodeRows h))
 
 module _ {t : List ℕ} {z : ℕ} {r : Range} {ns : List ℕ} {at : List (List ℤ)} {cs L : List ℕ} (o : Outdated t z r ns at cs L)

@@ -1,7 +1,7 @@
 -- `pairing::soundness::judge` meets its contract: the first faulty row of A, then of B. Assumes nothing.
 use mathlib.Core.Path.{sym, _∙_}
 use Rattle.tables.specs.Definitions.Tables.{firstFault}
-use Rattle.tables.specs.Laws.Sound.{fault-row, fault-none}
+use Rattle.tables.specs.Laws.Faults.{fault-row, fault-none}
 use borrow.Author.Needs.{needs}
 use Rattle.pairing.proofs.soundness.judge.Statement.{statement}
 use Rattle.pairing.proofs.soundness.judge.Tie as tie

@@ -3,7 +3,7 @@ use Prim.Native.Nat.{_+_, _*_, _-_, _≤_}
 use mathlib.Core.Path.{_≡_, refl, _∙_}
 use native.Mathlib.Omega.{arith}
 use lib.ListN.{length}
-use Rattle.matching.specs.Definitions.Columns.{linksOf}
+use Rattle.matching.specs.Definitions.Rows.{linksIn}
 use Rattle.tables.specs.Definitions.Rows.{flat}
 use Rattle.player.specs.Definitions.Text.{Written}
 use Rattle.player.specs.Definitions.Lines.{lineRoom, linkLine}
@@ -12,73 +12,36 @@ use Rattle.player.proofs.links.put_links.Statement.{statement}
 use Rattle.player.proofs.links.put_links.Tie as tie
 
 abbrev Inv-loop : tie.InvT-loop
-Inv-loop text₀ at la lb ld lm n end₀ k₀ text end k =
+Inv-loop text₀ at links n end₀ k₀ text end k =
     (length text ≡ length text₀)
     × (k ≤ n)
     × (end ≤ at + lineRoom * k)
-    × Written text₀ at (flat linkLine (linksOf la lb ld lm k)) text end
+    × Written text₀ at (flat linkLine (linksIn links k)) text end
 
 abbrev μ-loop : tie.MeasureT-loop
-μ-loop text₀ at la lb ld lm n end₀ k₀ text end k = n - k
+μ-loop text₀ at links n end₀ k₀ text end k = n - k
 
 loop-holds : tie.Need-loop-holds Inv-loop μ-loop
-loop-holds c =
-    let x = c .before .before .before .before .before .args in
-    (refl, omega arith, omega arith, links-start (x .la .now) (x .lb .now) (x .ld .now) (x .lm .now) (x .text .now) (x .at))
-
-mul-link-line : tie.Need-mul-link-line Inv-loop μ-loop
-mul-link-line c = omega arith
-
-shared-slice-read-link-line : tie.Need-shared-slice-read-link-line Inv-loop μ-loop
-shared-slice-read-link-line c = omega arith
-
-mul-link-line-2 : tie.Need-mul-link-line-2 Inv-loop μ-loop
-mul-link-line-2 c = omega arith
-
-shared-slice-read-link-line-2 : tie.Need-shared-slice-read-link-line-2 Inv-loop μ-loop
-shared-slice-read-link-line-2 c = omega arith
-
-mul-link-line-3 : tie.Need-mul-link-line-3 Inv-loop μ-loop
-mul-link-line-3 c = omega arith
-
-shared-slice-read-link-line-3 : tie.Need-shared-slice-read-link-line-3 Inv-loop μ-loop
-shared-slice-read-link-line-3 c = omega arith
-
-mul-link-line-4 : tie.Need-mul-link-line-4 Inv-loop μ-loop
-mul-link-line-4 c = omega arith
-
-shared-slice-read-link-line-4 : tie.Need-shared-slice-read-link-line-4 Inv-loop μ-loop
-shared-slice-read-link-line-4 c = omega arith
-
-link-line-requires : tie.Need-link-line-requires Inv-loop μ-loop
-link-line-requires c κs = omega arith
-
-add-k : tie.Need-add-k Inv-loop μ-loop
-add-k c = omega arith
-
-loop-less : tie.Need-loop-less Inv-loop μ-loop
-loop-less c = omega arith
+loop-holds c = let x = c .before .args in (refl, omega arith, omega arith, links-start (x .links .now) (x .text .now) (x .at))
 
 loop-again : tie.Need-loop-again Inv-loop μ-loop
 loop-again c =
-    let f = c .before .before .link-line in
-    let l = c .before .before .before .before .before .before .before .before .before .loop in
-    let s = c .before .before .before .before .before .before .before .before .before .before .before .before .before .before .before in
+    let call = c .before .before in
+    let f = call .link-line in
+    let turn = call .before .before .before in
+    let l = turn .before .loop in
+    let s = turn .before .before .before in
     let x = s .args in (
       f .kept .0 ∙ l .inv .0,
       omega arith,
       omega (arith, f .ensures .1, l .inv .2),
-      links-turn (x .la .now) (x .lb .now) (x .ld .now) (x .lm .now) (x .text .now) (l .text) _ (x .at) (l .end) (f .result) (l .k) (omega (arith, l .inv .2, c .before .before .before .before .before .before .before .before .loop-test .taken, s .pre .0)) (l .inv .3) (f .ensures .0),
+      links-turn (x .links .now) (x .text .now) (l .text) _ (x .at) (l .end) (f .result) (l .k) (omega (arith, l .inv .2, turn .loop-test .taken, s .pre .0)) (l .inv .3) (f .ensures .0),
     )
-
-same-length : tie.Need-same-length Inv-loop μ-loop
-same-length c = c .before .loop .inv .0
 
 returns : tie.Need-returns Inv-loop μ-loop
 returns c =
     let l = c .before .loop in
-    let x = c .before .before .before .before .before .before .before .args in
-    let e : l .k ≡ x .n = omega (arith, c .loop-test .left, l .inv .1) in
+    let e : l .k ≡ c .before .before .before .args .n = omega (arith, c .loop-test .left, l .inv .1) in
     (rw e at (l .inv .3), omega (arith, l .inv .1, l .inv .2))
 
 pub put-links-spec : {M : Type 1} → statement M
@@ -88,17 +51,11 @@ put-links-spec =
     Inv-loop
     μ-loop
     loop-holds
-    mul-link-line
-    shared-slice-read-link-line
-    mul-link-line-2
-    shared-slice-read-link-line-2
-    mul-link-line-3
-    shared-slice-read-link-line-3
-    mul-link-line-4
-    shared-slice-read-link-line-4
-    link-line-requires
-    add-k
-    loop-less
+    (λ c. omega arith)
+    (λ c. omega arith)
+    (λ c κs. omega arith)
+    (λ c. omega arith)
+    (λ c. omega arith)
     loop-again
-    same-length
+    (λ c. c .before .loop .inv .0)
     returns)
