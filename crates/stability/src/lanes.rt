@@ -30,20 +30,23 @@ pub fn fill(
     at: &[[i16; 2]],
     limits: &[u64],
     cn: &mut [u32],
-    cp: &mut [[i16; 2]],
+    cx: &mut [i16],
+    cy: &mut [i16],
     cf: &mut [u32],
     ch: &mut [u32],
 )
     requires { ⌜ (r .from < r .to) × (r .to ≤ setRows) × (length (now ns) ≡ setRows) × (length (now at) ≡ setRows) × (length (now limits) ≡ setRows) ⌝ }
-    requires { ⌜ Sized (now cn) (now cp) (now cf) (now ch) ⌝ }
-    ensures { λ _. ⌜ Sized (now (cn .exit)) (now (cp .exit)) (now (cf .exit)) (now (ch .exit)) ⌝ }
-    ensures { λ _. ⌜ Lanes (now (ns .entry)) (now (at .entry)) (now (limits .entry)) r (now (cn .exit)) (now (cp .exit)) (now (cf .exit)) (now (ch .exit)) blockRows ⌝ }
+    requires { ⌜ Sized (now cn) (now cx) (now cy) (now cf) (now ch) ⌝ }
+    ensures { λ _. ⌜ Sized (now (cn .exit)) (now (cx .exit)) (now (cy .exit)) (now (cf .exit)) (now (ch .exit)) ⌝ }
+    ensures { λ _. ⌜ Lanes (now (ns .entry)) (now (at .entry)) (now (limits .entry)) r
+        (now (cn .exit)) (now (cx .exit)) (now (cy .exit)) (now (cf .exit)) (now (ch .exit)) blockRows ⌝ }
 {
     let mut k = 0;
     while k < sizes::BLOCK {
         let i = row(k, r);
         cn[k] = ns[i];
-        cp[k] = at[i];
+        cx[k] = at[i][0];
+        cy[k] = at[i][1];
         cf[k] = matching::distance(limits[i]);
         ch[k] = number(limits[i]);
         k += 1;

@@ -1,30 +1,23 @@
 -- Lanes: filled one by one, and what they say of the block's rows. Assumes nothing.
 use Prim.Native.Nat.{ℕ, _+_, _-_, _*_, _/_, _%_, _≤_, _<_}
 use mathlib.Core.Path.{_≡_, sym, _∙_, ap₂}
-use mathlib.Core.List.{List, []}
+use mathlib.Core.List.{List}
 use native.Mathlib.Decide.{decLt}
 use native.Mathlib.Nat.{div-add-mod'}
 use native.Mathlib.Omega.{arith}
 use borrow.Author.Count.{below-more}
 use borrow.Author.Tests.{lt-ltb, le-ltb}
-use lib.IntN.{ℤ}
+use lib.IntN.{ℤ, pos}
 use lib.ListN.{length, getD, set, length-set}
 use lib.Seq.{getD-set-same, getD-set-other}
 use Rattle.matching.specs.declared.Range.{Range}
-use Rattle.matching.specs.Definitions.Pairs.{squaredDistance}
-use Rattle.matching.specs.Definitions.Columns.{Inside}
-use Rattle.matching.specs.Definitions.Rows.{across, upward, key, gap}
+use Rattle.matching.specs.Definitions.Rows.{xAt, yAt, key, gap}
 use Rattle.matching.specs.Definitions.Sizes.{blockRows, numberRange}
-use Rattle.matching.specs.Laws.Distance.{inside-reach, distance-fits}
 use Rattle.stability.specs.declared.blocks.Block.{Block}
 use Rattle.stability.specs.Ranges.{RowOf, Ranged}
 use Rattle.stability.specs.Blocking.{Blocking, Stable}
 use Rattle.stability.specs.Blocks.{Encloses}
 use Rattle.stability.specs.Lanes.{late, rowOf, Sized, Lane, Lanes, Enclosed, StableLanes}
-
--- The squared distance of two positions inside leaves room for a tie.
-pub apart-fits : (p q : List ℤ) → Inside (across p) (upward p) → Inside (across q) (upward q) → squaredDistance (across p) (upward p) (across q) (upward q) < 4294967295
-apart-fits p q a b = distance-fits (across p) (upward p) (across q) (upward q) (inside-reach (across p) (upward p) (across q) (upward q) a b)
 
 -- A limit is read the same from a key and from its distance and number.
 pub key-split : (l : ℕ) → key (l / numberRange) (l % numberRange) ≡ l
@@ -44,50 +37,54 @@ ahead-split d n far high small h = go (decLt n high)
     go (no l) = omega (arith, tied (omega arith))
 
 -- The next lane is written.
-pub sized-on : (cn : List ℕ) (cp : List (List ℤ)) (cf ch : List ℕ) (k a : ℕ) (p : List ℤ) (f h : ℕ) → Sized cn cp cf ch → Sized (set cn k a) (set cp k p) (set cf k f) (set ch k h)
-sized-on cn cp cf ch k a p f h s = record {
+pub sized-on : (cn : List ℕ) (cx cy : List ℤ) (cf ch : List ℕ) (k a : ℕ) (x y : ℤ) (f h : ℕ) → Sized cn cx cy cf ch
+    → Sized (set cn k a) (set cx k x) (set cy k y) (set cf k f) (set ch k h)
+sized-on cn cx cy cf ch k a x y f h s = record {
   numbers = length-set cn k a ∙ s .numbers;
-  positions = length-set cp k p ∙ s .positions;
+  x = length-set cx k x ∙ s .x;
+  y = length-set cy k y ∙ s .y;
   far = length-set cf k f ∙ s .far;
   high = length-set ch k h ∙ s .high;
 }
 
-module _ (ns : List ℕ) (at : List (List ℤ)) (L : List ℕ) (r : Range) (cn : List ℕ) (cp : List (List ℤ)) (cf ch : List ℕ) (s : Sized cn cp cf ch) where
+module _ (ns : List ℕ) (at : List (List ℤ)) (L : List ℕ) (r : Range) (cn : List ℕ) (cx cy : List ℤ) (cf ch : List ℕ) (s : Sized cn cx cy cf ch) where
   -- It gets its row.
-  pub lanes-on : (k f h : ℕ) → k < blockRows → key f h ≡ getD L (rowOf r k) 0 → Lanes ns at L r cn cp cf ch k
-      → Lanes ns at L r (set cn k (getD ns (rowOf r k) 0)) (set cp k (getD at (rowOf r k) [])) (set cf k f) (set ch k h) (k + 1)
+  pub lanes-on : (k f h : ℕ) → k < blockRows → key f h ≡ getD L (rowOf r k) 0 → Lanes ns at L r cn cx cy cf ch k
+      → Lanes ns at L r (set cn k (getD ns (rowOf r k) 0)) (set cx k (xAt at (rowOf r k))) (set cy k (yAt at (rowOf r k))) (set cf k f) (set ch k h) (k + 1)
   lanes-on k f h b split old = below-more _ k
       (λ q l.
       let ne : q ≡ k → ⊥ = λ e. omega arith in
       let o = old q l in
       record {
         number = getD-set-other cn k q _ 0 ne ∙ o .number;
-        position = getD-set-other cp k q _ [] ne ∙ o .position;
+        x = getD-set-other cx k q _ (pos 0) ne ∙ o .x;
+        y = getD-set-other cy k q _ (pos 0) ne ∙ o .y;
         limit = ap₂ key (getD-set-other cf k q f 0 ne) (getD-set-other ch k q h 0 ne) ∙ o .limit;
       })
       (record {
         number = getD-set-same cn k _ 0 (omega arith);
-        position = getD-set-same cp k _ [] (omega arith);
+        x = getD-set-same cx k _ (pos 0) (omega arith);
+        y = getD-set-same cy k _ (pos 0) (omega arith);
         limit = ap₂ key (getD-set-same cf k f 0 (omega arith)) (getD-set-same ch k h 0 (omega arith)) ∙ split;
       })
 
-  module _ (lanes : Lanes ns at L r cn cp cf ch blockRows) (some : r .from < r .to) where
+  module _ (lanes : Lanes ns at L r cn cx cy cf ch blockRows) (some : r .from < r .to) where
     row-in : (k : ℕ) → RowOf r (rowOf r k)
     row-in k = (omega arith, omega arith)
 
     -- The block of the rows encloses their lanes.
-    pub lanes-enclosed : (b : Block) → Ranged ns at r → Encloses ns at L r b → Enclosed b cn cp cf ch
+    pub lanes-enclosed : (b : Block) → Ranged ns at r → Encloses ns at L r b → Enclosed b cn cx cy cf ch
     lanes-enclosed b g e = record {
       sized = s;
       inner = e .inner;
-      inside = λ k h. rw (lanes k h .position) (g .inside (rowOf r k) (row-in k));
-      holds = λ k h. let l = lanes k h in rw (l .number, l .position, l .limit) (e .holds (rowOf r k) (row-in k));
+      inside = λ k h. let l = lanes k h in rw (l .x, l .y) (g .inside (rowOf r k) (row-in k));
+      holds = λ k h. let l = lanes k h in rw (l .number, l .x, l .y, l .limit) (e .holds (rowOf r k) (row-in k));
     }
 
     -- A row that blocks with no lane blocks with no row.
-    pub lanes-stable : (K : List ℕ) (i : ℕ) → r .to ≤ r .from + blockRows → StableLanes ns at K cn cp cf ch i → (j : ℕ) → RowOf r j → ¬ Blocking ns at K L i j
+    pub lanes-stable : (K : List ℕ) (i : ℕ) → r .to ≤ r .from + blockRows → StableLanes ns at K cn cx cy cf ch i → (j : ℕ) → RowOf r j → ¬ Blocking ns at K L i j
     unfolding gap
     lanes-stable K i room stable j h =
         let l = lanes (j - r .from) (omega arith) in
         let e : rowOf r (j - r .from) ≡ j = omega arith in
-        rw (e) at (rw (l .number, l .position, l .limit) at (stable (j - r .from) (omega arith)))
+        rw (e) at (rw (l .number, l .x, l .y, l .limit) at (stable (j - r .from) (omega arith)))

@@ -1,6 +1,5 @@
 -- `blocking::between` meets its contract: blocks that are apart hold no blocking pair. Assumes nothing.
 use borrow.Author.Needs.{needs}
-use Rattle.matching.specs.Definitions.Rows.{gap}
 use Rattle.stability.proofs.blocking.between.Statement.{statement}
 use Rattle.stability.proofs.blocking.between.Tie as tie
 
@@ -8,7 +7,6 @@ apart-requires : tie.Need-apart-requires
 apart-requires c κs = search needs
 
 returns : tie.Need-returns
-unfolding gap
 returns c = let p = c .before .before .before .before .before .before .before .pre in λ w i h k l. c .before .apart .ensures (c .if1 .taken) _ _ _ _ _ _ _ _ (p .1 .holds i h) (p .2 .holds k l)
 
 group-requires : tie.Need-group-requires

@@ -10,10 +10,10 @@ use Rattle.stability.proofs.blocking.group.Statement.{statement}
 use Rattle.stability.proofs.blocking.group.Tie as tie
 
 abbrev Inv-loop : tie.InvT-loop
-Inv-loop p b ns at limits cn cp cf ch i₀ i = (p .from ≤ i) × ((k : ℕ) → RowOf (upTo (p .from) i) k → StableLanes ns at limits cn cp cf ch k)
+Inv-loop p b ns at limits cn cx cy cf ch i₀ i = (p .from ≤ i) × ((k : ℕ) → RowOf (upTo (p .from) i) k → StableLanes ns at limits cn cx cy cf ch k)
 
 abbrev μ-loop : tie.MeasureT-loop
-μ-loop p b ns at limits cn cp cf ch i₀ i = p .to - i
+μ-loop p b ns at limits cn cx cy cf ch i₀ i = p .to - i
 
 loop-holds : tie.Need-loop-holds Inv-loop μ-loop
 loop-holds c = (omega arith, rows-none _ _)

@@ -1,7 +1,6 @@
 -- `blocking::row` meets its contract: a block that is passed over holds no row with which this one blocks. Assumes nothing.
 use borrow.Author.Needs.{needs}
 use borrow.Author.Tests.{eqb-true, not-false}
-use Rattle.matching.specs.Definitions.Rows.{gap}
 use Rattle.stability.proofs.blocking.row.Statement.{statement}
 use Rattle.stability.proofs.blocking.row.Tie as tie
 
@@ -27,7 +26,6 @@ is-past-requires : tie.Need-is-past-requires
 is-past-requires c κs = search needs
 
 returns : tie.Need-returns
-unfolding gap
 returns c = λ w k h. c .before .is-past .ensures (c .if1 .taken) _ _ _ _ (c .before .before .before .before .before .before .before .before .before .before .pre .3 .holds k h)
 
 mul-count : tie.Need-mul-count
@@ -52,7 +50,6 @@ count-requires : tie.Need-count-requires
 count-requires c κs = search needs
 
 returns-2 : tie.Need-returns-2
-unfolding gap
 returns-2 c = λ w. c .count .ensures (eqb-true _ _ (not-false _ w))
 
 pub row-spec : {M : Type 1} → statement M

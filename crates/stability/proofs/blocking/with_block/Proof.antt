@@ -16,6 +16,9 @@ slice-aggregate-fill-3 c = search needs
 slice-aggregate-fill-4 : tie.Need-slice-aggregate-fill-4
 slice-aggregate-fill-4 c = search needs
 
+slice-aggregate-fill-5 : tie.Need-slice-aggregate-fill-5
+slice-aggregate-fill-5 c = search needs
+
 fill-requires : tie.Need-fill-requires
 fill-requires c κs = search needs
 
@@ -34,17 +37,21 @@ slice-aggregate-by-blocks-3 c = search needs
 slice-aggregate-by-blocks-4 : tie.Need-slice-aggregate-by-blocks-4
 slice-aggregate-by-blocks-4 c = search needs
 
+slice-aggregate-by-blocks-5 : tie.Need-slice-aggregate-by-blocks-5
+slice-aggregate-by-blocks-5 c = search needs
+
 by-blocks-requires : tie.Need-by-blocks-requires
 by-blocks-requires c κs =
-    let p = c .before .before .before .before .before .before .before .before .before .before .before .before .before .before .before .before .before .pre in
-    let f = c .before .before .before .before .before .before .before .before .before .fill .ensures in
-    (p .0, p .1, lanes-enclosed _ _ _ _ _ _ _ _ (f .0) (f .1) (p .3) _ (p .2 .ranged) (c .before .before .before .before .enclose .ensures))
+    let p = c .before .before .before .before .before .before .before .before .before .before .before .before .before .before .before .before .before .before .before .before .pre in
+    let f = c .before .before .before .before .before .before .before .before .before .before .before .fill .ensures in
+    (p .0, p .1, lanes-enclosed _ _ _ _ _ _ _ _ _ (f .0) (f .1) (p .3) _ (p .2 .ranged) (c .before .before .before .before .before .enclose .ensures))
 
 returns : tie.Need-returns
 returns c =
-    let p = c .before .before .before .before .before .before .before .before .before .before .before .before .before .before .before .before .before .before .pre in
-    let f = c .before .before .before .before .before .before .before .before .before .before .fill .ensures in
-    λ w i j h g. lanes-stable _ _ _ _ _ _ _ _ (f .0) (f .1) (p .3) (c .before .before .before .before .before .before .before .before .before .before .before .before .before .before .before .before .before .before .args .e .now) i (p .4) (c .by-blocks .ensures w i h) j g
+    let s = c .before .before .before .before .before .before .before .before .before .before .before .before .before .before .before .before .before .before .before .before .before in
+    let p = s .pre in
+    let f = c .before .before .before .before .before .before .before .before .before .before .before .before .fill .ensures in
+    λ w i j h g. lanes-stable _ _ _ _ _ _ _ _ _ (f .0) (f .1) (p .3) (s .args .e .now) i (p .4) (c .by-blocks .ensures w i h) j g
 
 pub with-block-spec : {M : Type 1} → statement M
 with-block-spec =
@@ -54,11 +61,13 @@ with-block-spec =
     slice-aggregate-fill-2
     slice-aggregate-fill-3
     slice-aggregate-fill-4
+    slice-aggregate-fill-5
     fill-requires
     enclose-requires
     slice-aggregate-by-blocks
     slice-aggregate-by-blocks-2
     slice-aggregate-by-blocks-3
     slice-aggregate-by-blocks-4
+    slice-aggregate-by-blocks-5
     by-blocks-requires
     returns)

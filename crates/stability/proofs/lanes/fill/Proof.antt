@@ -4,18 +4,19 @@ use native.Mathlib.Omega.{arith}
 use Prim.Native.Nat.{_-_}
 use mathlib.Core.Path.{_≡_}
 use lib.ListN.{getD}
-use Rattle.matching.specs.Definitions.Rows.{key}
+use Rattle.matching.specs.Definitions.Rows.{xAt, yAt, key}
 use Rattle.matching.specs.Definitions.Sizes.{blockRows}
+use Rattle.matching.proofs.Laws.Widths.{back}
 use Rattle.stability.specs.Lanes.{Sized, Lanes}
 use Rattle.stability.proofs.Laws.Lanes.{key-split, sized-on, lanes-on}
 use Rattle.stability.proofs.lanes.fill.Statement.{statement}
 use Rattle.stability.proofs.lanes.fill.Tie as tie
 
 abbrev Inv-loop : tie.InvT-loop
-Inv-loop r ns at limits cn₀ cp₀ cf₀ ch₀ k₀ cn cp cf ch k = Sized cn cp cf ch × Lanes ns at limits r cn cp cf ch k
+Inv-loop r ns at limits cn₀ cx₀ cy₀ cf₀ ch₀ k₀ cn cx cy cf ch k = Sized cn cx cy cf ch × Lanes ns at limits r cn cx cy cf ch k
 
 abbrev μ-loop : tie.MeasureT-loop
-μ-loop r ns at limits cn₀ cp₀ cf₀ ch₀ k₀ cn cp cf ch k = blockRows - k
+μ-loop r ns at limits cn₀ cx₀ cy₀ cf₀ ch₀ k₀ cn cx cy cf ch k = blockRows - k
 
 loop-holds : tie.Need-loop-holds Inv-loop μ-loop
 loop-holds c = (c .before .before .before .before .before .pre .1, λ k h. absurd (omega arith))
@@ -35,17 +36,35 @@ mul-cn-2 c = omega arith
 slice-write-cn : tie.Need-slice-write-cn Inv-loop μ-loop
 slice-write-cn c = omega arith
 
-mul-cp : tie.Need-mul-cp Inv-loop μ-loop
-mul-cp c = omega arith
+mul-cx : tie.Need-mul-cx Inv-loop μ-loop
+mul-cx c = omega arith
 
-shared-slice-copy-out-cp : tie.Need-shared-slice-copy-out-cp Inv-loop μ-loop
-shared-slice-copy-out-cp c = omega arith
+index-1-cx : tie.Need-index-1-cx Inv-loop μ-loop
+index-1-cx c = omega arith
 
-mul-t15 : tie.Need-mul-t15 Inv-loop μ-loop
-mul-t15 c = omega arith
+index-2-cx : tie.Need-index-2-cx Inv-loop μ-loop
+index-2-cx c = search needs
 
-slice-set-from-cp : tie.Need-slice-set-from-cp Inv-loop μ-loop
-slice-set-from-cp c = omega arith
+mul-cy : tie.Need-mul-cy Inv-loop μ-loop
+mul-cy c = omega arith
+
+slice-set-from-cy : tie.Need-slice-set-from-cy Inv-loop μ-loop
+slice-set-from-cy c = omega arith
+
+mul-cy-2 : tie.Need-mul-cy-2 Inv-loop μ-loop
+mul-cy-2 c = omega arith
+
+index-1-cy : tie.Need-index-1-cy Inv-loop μ-loop
+index-1-cy c = omega arith
+
+index-2-cy : tie.Need-index-2-cy Inv-loop μ-loop
+index-2-cy c = search needs
+
+mul-t16 : tie.Need-mul-t16 Inv-loop μ-loop
+mul-t16 c = omega arith
+
+slice-set-from-cy-2 : tie.Need-slice-set-from-cy-2 Inv-loop μ-loop
+slice-set-from-cy-2 c = omega arith
 
 mul-distance : tie.Need-mul-distance Inv-loop μ-loop
 mul-distance c = omega arith
@@ -85,11 +104,16 @@ loop-less c = omega arith
 
 loop-again : tie.Need-loop-again Inv-loop μ-loop
 loop-again c =
-    let l = c .before .before .before .before .before .before .before .before .loop in
-    let s = c .before .before .before .before .before .before .before .before .before .before .before .before .before .before .args in
-    let e : key (c .before .before .distance .result) (c .number .result) ≡ getD (s .limits .now) (c .before .before .before .before .before .before .row .result) 0 = rw (c .before .before .distance .ensures, c .number .ensures) (key-split _) in
-    rw (c .before .before .before .before .before .before .row .ensures .1)
-    (sized-on _ _ _ _ _ _ _ _ _ (l .inv .0), lanes-on (s .ns .now) (s .at .now) (s .limits .now) (s .r) _ _ _ _ (l .inv .0) _ _ _ (c .before .before .before .before .before .before .before .loop-test .taken) (rw (c .before .before .before .before .before .before .row .ensures .1) at e) (l .inv .1))
+    let l = c .before .before .before .before .before .before .before .before .before .loop in
+    let s = c .before .before .before .before .before .before .before .before .before .before .before .before .before .before .before .args in
+    let row = c .before .before .before .before .before .before .before .row in
+    let far = c .before .before .distance in
+    let i = row .result in
+    let e : key (far .result) (c .number .result) ≡ getD (s .limits .now) i 0 = rw (far .ensures, c .number .ensures) (key-split _) in
+    rw (back (xAt (s .at .now) i) (c .before .before .before .before .before .cx .given), back (yAt (s .at .now) i) (c .before .before .before .before .cy .given), row .ensures .1) (
+      sized-on _ _ _ _ _ _ _ _ _ _ _ (l .inv .0),
+      lanes-on (s .ns .now) (s .at .now) (s .limits .now) (s .r) _ _ _ _ _ (l .inv .0) _ _ _ (c .before .before .before .before .before .before .before .before .loop-test .taken) (rw (row .ensures .1) at e) (l .inv .1),
+    )
 
 same-length : tie.Need-same-length Inv-loop μ-loop
 same-length c = omega arith
@@ -102,6 +126,9 @@ same-length-3 c = omega arith
 
 same-length-4 : tie.Need-same-length-4 Inv-loop μ-loop
 same-length-4 c = omega arith
+
+same-length-5 : tie.Need-same-length-5 Inv-loop μ-loop
+same-length-5 c = omega arith
 
 returns : tie.Need-returns Inv-loop μ-loop
 returns c = (c .before .loop .inv .0, λ k h. c .before .loop .inv .1 k (omega arith))
@@ -118,10 +145,16 @@ fill-spec =
     shared-slice-read-cn
     mul-cn-2
     slice-write-cn
-    mul-cp
-    shared-slice-copy-out-cp
-    mul-t15
-    slice-set-from-cp
+    mul-cx
+    index-1-cx
+    index-2-cx
+    mul-cy
+    slice-set-from-cy
+    mul-cy-2
+    index-1-cy
+    index-2-cy
+    mul-t16
+    slice-set-from-cy-2
     mul-distance
     shared-slice-read-distance
     distance-requires
@@ -139,4 +172,5 @@ fill-spec =
     same-length-2
     same-length-3
     same-length-4
+    same-length-5
     returns)
