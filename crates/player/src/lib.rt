@@ -50,7 +50,8 @@ pub fn text_buffer() -> [u8; TEXT]
 fn load(text: &mut [u8], a: &mut [u8], b: &mut [u8], list: &mut [u8], edits: &[u8]) -> usize
     requires { ⌜ length (now list) ≡ listSize ⌝ }
     requires { ⌜ textRoom ≤ length (now text) ⌝ }
-    ensures { λ r. ⌜ Written (now (text .entry)) 0 (loadLines (now (a .entry)) (now (b .entry)) (now (list .entry)) (now (edits .entry))) (now (text .exit)) r ⌝ }
+    ensures { λ r. ⌜ Written (now (text .entry)) 0 (loadLines (now (a .entry)) (now (b .entry)) (now (list .entry)) (now (edits .entry)))
+        (now (text .exit)) r ⌝ }
     ensures { λ r. ⌜ r ≤ textRoom ⌝ }
 {
     let answer = pairing_pair(a, b, list);

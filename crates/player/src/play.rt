@@ -28,8 +28,10 @@ fn play_edit(
 ) -> usize
     requires { ⌜ length (now list) ≡ listSize ⌝ }
     requires { ⌜ at + lineRoom ≤ length (now text) ⌝ }
-    ensures { λ r. ⌜ Written (now (text .entry)) at (turnLine n (drawing (now (a .entry)) (now (b .entry)) (now (list .entry))) (now (edit .entry))) (now (text .exit)) r ⌝ }
-    ensures { λ _. ⌜ drawing (now (a .exit)) (now (b .exit)) (now (list .exit)) ≡ after (drawing (now (a .entry)) (now (b .entry)) (now (list .entry))) (now (edit .entry)) ⌝ }
+    ensures { λ r. ⌜ Written (now (text .entry)) at (turnLine n (drawing (now (a .entry)) (now (b .entry)) (now (list .entry)))
+        (now (edit .entry))) (now (text .exit)) r ⌝ }
+    ensures { λ _. ⌜ drawing (now (a .exit)) (now (b .exit)) (now (list .exit))
+        ≡ after (drawing (now (a .entry)) (now (b .entry)) (now (list .entry))) (now (edit .entry)) ⌝ }
     ensures { λ r. ⌜ r ≤ at + lineRoom ⌝ }
 {
     let answer = pairing_edit(a, b, list, edit);
@@ -56,8 +58,10 @@ fn play_edits(
 ) -> usize
     requires { ⌜ length (now list) ≡ listSize ⌝ }
     requires { ⌜ at + lineRoom * editsMost ≤ length (now text) ⌝ }
-    ensures { λ r. ⌜ Written (now (text .entry)) at (editLines (drawing (now (a .entry)) (now (b .entry)) (now (list .entry))) (now (edits .entry)) (playable (length (now (edits .entry))))) (now (text .exit)) r ⌝ }
-    ensures { λ _. ⌜ drawing (now (a .exit)) (now (b .exit)) (now (list .exit)) ≡ edited (drawing (now (a .entry)) (now (b .entry)) (now (list .entry))) (now (edits .entry)) (playable (length (now (edits .entry)))) ⌝ }
+    ensures { λ r. ⌜ Written (now (text .entry)) at (editLines (drawing (now (a .entry)) (now (b .entry)) (now (list .entry)))
+        (now (edits .entry)) (playable (length (now (edits .entry))))) (now (text .exit)) r ⌝ }
+    ensures { λ _. ⌜ drawing (now (a .exit)) (now (b .exit)) (now (list .exit))
+        ≡ edited (drawing (now (a .entry)) (now (b .entry)) (now (list .entry))) (now (edits .entry)) (playable (length (now (edits .entry)))) ⌝ }
     ensures { λ r. ⌜ r ≤ at + lineRoom * editsMost ⌝ }
 {
     let count = count_edits(edits.len());
@@ -99,7 +103,8 @@ pub fn play(
 ) -> usize
     requires { ⌜ length (now list) ≡ listSize ⌝ }
     requires { ⌜ at + playRoom ≤ length (now text) ⌝ }
-    ensures { λ r. ⌜ Written (now (text .entry)) at (playLines (drawing (now (a .entry)) (now (b .entry)) (now (list .entry))) (now (edits .entry))) (now (text .exit)) r ⌝ }
+    ensures { λ r. ⌜ Written (now (text .entry)) at (playLines (drawing (now (a .entry)) (now (b .entry)) (now (list .entry)))
+        (now (edits .entry))) (now (text .exit)) r ⌝ }
     ensures { λ r. ⌜ r ≤ at + playRoom ⌝ }
 {
     let played = play_edits(text, at, a, b, list, edits);

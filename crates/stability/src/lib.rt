@@ -31,7 +31,9 @@ pub fn verify(
     limits: &mut [u64],
 ) -> bool
     requires { ⌜ Asked (now ns) (now at) (now cs) s (now links) (now places) n (now limits) ⌝ }
-    ensures { λ r. ⌜ (r ≡ true → linksIn (now (links .entry)) n ≡ join (nodesOn s (now (ns .entry)) (now (at .entry)) (now (cs .entry)) masterA) (nodesOn s (now (ns .entry)) (now (at .entry)) (now (cs .entry)) masterB)) × Barred (now (ns .entry)) (now (at .entry)) s (now (limits .exit)) ⌝ }
+    ensures { λ r. ⌜ (r ≡ true → linksIn (now (links .entry)) n
+        ≡ join (nodesOn s (now (ns .entry)) (now (at .entry)) (now (cs .entry)) masterA) (nodesOn s (now (ns .entry)) (now (at .entry))
+        (now (cs .entry)) masterB)) × Barred (now (ns .entry)) (now (at .entry)) s (now (limits .exit)) ⌝ }
 {
     let mut next = [0u64; matching::sizes::ROWS];
     if !links::hold(ns, at, cs, s, links, places, n, &mut next) {

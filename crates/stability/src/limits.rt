@@ -20,7 +20,8 @@ fn limit(capacity: u32, taken: u32, last: u64) -> u64
 // The limits of the range's rows, in place of the keys of their last links.
 pub fn note(r: Range, cs: &[u32], taken: &[u32], last: &mut [u64])
     requires { ⌜ (r .from ≤ r .to) × (r .to ≤ length (now cs)) × (r .to ≤ length (now taken)) × (r .to ≤ length (now last)) ⌝ }
-    ensures { λ _. ⌜ Filled r (λ i l. Limit (getD (now (cs .entry)) i 0) (getD (now (taken .entry)) i 0) (getD (now (last .entry)) i 0) l) (now (last .entry)) (now (last .exit)) ⌝ }
+    ensures { λ _. ⌜ Filled r (λ i l. Limit (getD (now (cs .entry)) i 0) (getD (now (taken .entry)) i 0) (getD (now (last .entry)) i 0) l)
+        (now (last .entry)) (now (last .exit)) ⌝ }
 {
     let mut i = r.from;
     while i < r.to {

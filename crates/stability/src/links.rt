@@ -97,7 +97,8 @@ fn take(
     last: &mut [u64],
 ) -> bool
     requires { ⌜ Ready (now ns) (now at) (now cs) s (now taken) (now last) ⌝ }
-    ensures { λ r. ⌜ (r ≡ true → Taken (now (ns .entry)) (now (at .entry)) (now (cs .entry)) s (linkOf l) (getD p 0 0) (getD p 1 0) (now (taken .entry)) (now (last .entry)) (now (taken .exit)) (now (last .exit))) ⌝ }
+    ensures { λ r. ⌜ (r ≡ true → Taken (now (ns .entry)) (now (at .entry)) (now (cs .entry)) s (linkOf l) (getD p 0 0) (getD p 1 0)
+        (now (taken .entry)) (now (last .entry)) (now (taken .exit)) (now (last .exit))) ⌝ }
 {
     let i = p[0] as usize;
     let j = p[1] as usize;
@@ -122,8 +123,10 @@ fn take_all(
     taken: &mut [u32],
     last: &mut [u64],
 ) -> bool
-    requires { ⌜ (n ≤ length (now links)) × (n ≤ length (now places)) × Ready (now ns) (now at) (now cs) s (now taken) (now last) × ((i : ℕ) → getD (now taken) i 0 ≡ 0) ⌝ }
-    ensures { λ r. ⌜ (r ≡ true → Took (now (ns .entry)) (now (at .entry)) (now (cs .entry)) s (now (links .entry)) (now (places .entry)) n (now (taken .exit)) (now (last .exit))) ⌝ }
+    requires { ⌜ (n ≤ length (now links)) × (n ≤ length (now places)) × Ready (now ns) (now at) (now cs) s (now taken) (now last)
+        × ((i : ℕ) → getD (now taken) i 0 ≡ 0) ⌝ }
+    ensures { λ r. ⌜ (r ≡ true → Took (now (ns .entry)) (now (at .entry)) (now (cs .entry)) s (now (links .entry)) (now (places .entry)) n
+        (now (taken .exit)) (now (last .exit))) ⌝ }
 {
     let mut k = 0;
     while k < n {
@@ -147,7 +150,8 @@ pub fn hold(
     last: &mut [u64],
 ) -> bool
     requires { ⌜ Fit (now ns) (now at) (now cs) s × (n ≤ length (now links)) × (n ≤ length (now places)) × (length (now last) ≡ setRows) ⌝ }
-    ensures { λ r. ⌜ (r ≡ true → Held (now (ns .entry)) (now (at .entry)) (now (cs .entry)) s (now (links .entry)) n (now (places .entry)) (now (last .exit))) ⌝ }
+    ensures { λ r. ⌜ (r ≡ true → Held (now (ns .entry)) (now (at .entry)) (now (cs .entry)) s (now (links .entry)) n (now (places .entry))
+        (now (last .exit))) ⌝ }
 {
     if !in_order(links, n) {
         return false;
