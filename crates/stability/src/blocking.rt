@@ -1,5 +1,5 @@
 // A pass over the pairs of two ranges, both block by block: does one block, that is, is it ahead of the limits of both its nodes? Then the links lack it.
-// The first range's rows have their limits in `limits`; a block of the second's is in lanes: numbers cn, positions (cx, cy), limits as distances cf and numbers ch.
+// The first range's rows have their limits in `limits`; a block of the second's is in lanes: its numbers, positions, and limits as distances and numbers.
 use super::blocks;
 use super::blocks::Block;
 use super::lanes;
