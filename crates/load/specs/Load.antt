@@ -5,7 +5,8 @@ use mathlib.Core.List.{List, [], _∷_}
 use lib.IntN.{ℤ}
 use lib.ListN.{length, set}
 use Rattle.matching.specs.declared.Spans.{Spans}
-use Rattle.matching.specs.Definitions.Nodes.{Master, each, Node, Reordered}
+use Rattle.matching.specs.Definitions.Lists.{Reordered}
+use Rattle.matching.specs.Definitions.Nodes.{Master, each, Node}
 use Rattle.matching.specs.Definitions.Columns.{tabulate}
 use Rattle.matching.specs.Definitions.Sizes.{nodeRows, half, setRows}
 use Rattle.matching.specs.Definitions.Rows.{range, Spanned, nodeIn, nodesOn}

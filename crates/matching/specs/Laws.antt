@@ -4,6 +4,7 @@ pub mod Loops
 pub mod Order
 pub mod Distance
 pub mod Left
+pub mod Reordered
 pub mod Earliest
 pub mod Sorting
 pub mod Along

@@ -5,7 +5,8 @@ use mathlib.Core.Bool.{Bool, true, false}
 use mathlib.Core.List.{List, [], _∷_, _++_}
 use native.Mathlib.Decide.{ℕ-discrete}
 use borrow.Author.Tests.{eq-eqb, ne-eqb}
-use Rattle.matching.specs.Definitions.Nodes.{Node, Absent, Unique, has, Reordered, same, swap, skip, then}
+use Rattle.matching.specs.Definitions.Lists.{Reordered, same, swap, skip, then}
+use Rattle.matching.specs.Definitions.Nodes.{Node, Absent, Unique, has}
 use Rattle.matching.specs.Definitions.Edits.{depart, amend, moved, resized}
 use Rattle.matching.specs.Laws.Split.{Split, split, absent-of-unique}
 use Rattle.matching.specs.Laws.Undo.{arrive-depart}

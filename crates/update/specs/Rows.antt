@@ -6,7 +6,8 @@ use lib.IntN.{ℤ}
 use lib.ListN.{length, getD}
 use Rattle.matching.specs.declared.Range.{Range}
 use Rattle.matching.specs.declared.Spans.{Spans}
-use Rattle.matching.specs.Definitions.Nodes.{Master, Node, Reordered}
+use Rattle.matching.specs.Definitions.Lists.{Reordered}
+use Rattle.matching.specs.Definitions.Nodes.{Master, Node}
 use Rattle.matching.specs.Definitions.Edits.{depart}
 use Rattle.matching.specs.Definitions.Columns.{tabulate}
 use Rattle.matching.specs.Definitions.Rows.{range, nodeIn}

@@ -7,7 +7,8 @@ use lib.Dec.{eqb}
 use lib.IntN.{ℤ}
 use lib.ListN.{length}
 use Rattle.matching.specs.declared.Spans.{Spans}
-use Rattle.matching.specs.Definitions.Nodes.{Master, masterA, masterB, each, Reordered}
+use Rattle.matching.specs.Definitions.Lists.{Reordered}
+use Rattle.matching.specs.Definitions.Nodes.{Master, masterA, masterB, each}
 use Rattle.matching.specs.Definitions.Edits.{depart}
 use Rattle.matching.specs.Definitions.Sizes.{nodeRows, linkRows, half, setRows}
 use Rattle.matching.specs.Definitions.Rows.{range, nodesOn, Fit, Represents}

@@ -8,7 +8,8 @@ use lib.Dec.{eqb}
 use lib.IntN.{pos, natAbs}
 use lib.ListN.{length}
 use borrow.Author.Tests.{ne-eqb, le-leb}
-use Rattle.matching.specs.Definitions.Nodes.{Master, masterA, masterB, each, Node, has, Reordered, same}
+use Rattle.matching.specs.Definitions.Lists.{Reordered, same}
+use Rattle.matching.specs.Definitions.Nodes.{Master, masterA, masterB, each, Node, has}
 use Rattle.matching.specs.Definitions.Edits.{arrive, depart, amend, moved, resized}
 use Rattle.matching.specs.Laws.Lists.{all-at}
 use Rattle.matching.specs.Laws.Undo.{absent-has, arrived, arrive-depart, departed-absent, departed-length, depart-arrive, amended-has, amend-back}

@@ -8,7 +8,8 @@ use lib.IntN.{ℤ}
 use lib.ListN.{length, getD, length-set}
 use lib.Seq.{getD-set-same, getD-set-other}
 use Rattle.matching.specs.declared.Range.{Range}
-use Rattle.matching.specs.Definitions.Nodes.{Node, Reordered, same, then}
+use Rattle.matching.specs.Definitions.Lists.{Reordered, same, then}
+use Rattle.matching.specs.Definitions.Nodes.{Node}
 use Rattle.matching.specs.Definitions.Columns.{tabulate}
 use Rattle.matching.specs.Definitions.Sizes.{nodeRows, setRows}
 use Rattle.matching.specs.Definitions.Rows.{across, upward, nodeIn}

@@ -7,14 +7,16 @@ use lib.IntN.{ℤ}
 use lib.ListN.{length, getD}
 use Rattle.matching.specs.declared.Range.{Range}
 use Rattle.matching.specs.declared.Spans.{Spans}
-use Rattle.matching.specs.Definitions.Nodes.{Master, masterA, masterB, each, Node, Reordered}
+use Rattle.matching.specs.Definitions.Lists.{Reordered}
+use Rattle.matching.specs.Definitions.Nodes.{Master, masterA, masterB, each, Node}
 use Rattle.matching.specs.Definitions.Columns.{tabulate}
 use Rattle.matching.specs.Definitions.Sizes.{nodeRows, half, setRows}
 use Rattle.matching.specs.Definitions.Rows.{range, On, nodeIn, nodesOn, Represents}
 use Rattle.matching.specs.Laws.Lists.{all-at}
 use Rattle.matching.specs.Laws.Columns.{tabulate-get, tabulate-cong, same-place}
 use Rattle.matching.specs.Laws.Sets.{tabulate-unique, on-in, on-length}
-use Rattle.matching.specs.Theorems.RowOrder.{reordered-all, reordered-unique, reordered-back}
+use Rattle.matching.specs.Laws.Reordered.{reordered-all, reordered-back}
+use Rattle.matching.specs.Theorems.RowOrder.{reordered-unique}
 use Rattle.tables.specs.Definitions.Tables.{nodesIn, Accepted, GoodNode, GoodNodes}
 use Rattle.tables.specs.Laws.Accepted.{room as few, nodes-good}
 use Rattle.load.specs.Load.{Columns, Decoded, Loaded}

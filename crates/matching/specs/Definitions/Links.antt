@@ -19,6 +19,10 @@ link p m = record { a = p .a; b = p .b; distance = p .distance; amount = m }
 abbrev pub pairOf : Link → Pair
 pairOf l = record { distance = l .distance; a = l .a; b = l .b }
 
+-- A link with its two numbers exchanged.
+abbrev pub exchange : Link → Link
+exchange l = record { a = l .b; b = l .a; distance = l .distance; amount = l .amount }
+
 -- The amount of the pair of A's node a and B's node b, 0 without a link.
 unfoldable pub amountOf : List Link → ℕ → ℕ → ℕ
 amountOf [] a b = 0

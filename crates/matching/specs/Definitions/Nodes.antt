@@ -48,10 +48,3 @@ place n (v ∷ A) = cond (eqb (v .number) n) 0 (suc (place n A))
 unfoldable pub capacityOf : List Node → ℕ → ℕ
 capacityOf [] n = 0
 capacityOf (v ∷ A) n = cond (eqb (v .number) n) (v .capacity) (capacityOf A n)
-
--- The same nodes in another order.
-pub data Reordered : List Node → List Node → Type 0 where
-  same : {A : List Node} → Reordered A A
-  swap : (v w : Node) {A : List Node} → Reordered (v ∷ w ∷ A) (w ∷ v ∷ A)
-  skip : (v : Node) {A C : List Node} → Reordered A C → Reordered (v ∷ A) (v ∷ C)
-  then : {A C D : List Node} → Reordered A C → Reordered C D → Reordered A D

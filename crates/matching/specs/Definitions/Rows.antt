@@ -6,7 +6,8 @@ use lib.ListN.{length, getD}
 use lib.IntN.{ℤ, pos}
 use Rattle.matching.specs.declared.Range.{Range}
 use Rattle.matching.specs.declared.Spans.{Spans}
-use Rattle.matching.specs.Definitions.Nodes.{Master, each, Node, Reordered}
+use Rattle.matching.specs.Definitions.Lists.{Reordered}
+use Rattle.matching.specs.Definitions.Nodes.{Master, each, Node}
 use Rattle.matching.specs.Definitions.Pairs.{squaredDistance}
 use Rattle.matching.specs.Definitions.Links.{Link}
 use Rattle.matching.specs.Definitions.Join.{join}

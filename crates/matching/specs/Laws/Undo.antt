@@ -7,7 +7,8 @@ use native.Mathlib.Decide.{ℕ-discrete}
 use lib.Dec.{eqb}
 use lib.ListN.{length}
 use borrow.Author.Tests.{eq-eqb, ne-eqb}
-use Rattle.matching.specs.Definitions.Nodes.{Node, Absent, Unique, has, Reordered, same, swap, skip, then}
+use Rattle.matching.specs.Definitions.Lists.{Reordered, same, swap, skip, then}
+use Rattle.matching.specs.Definitions.Nodes.{Node, Absent, Unique, has}
 use Rattle.matching.specs.Definitions.Edits.{arrive, depart, amend}
 use Rattle.matching.specs.Laws.Lists.{all-at}
 

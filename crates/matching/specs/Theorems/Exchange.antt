@@ -1,22 +1,23 @@
 -- The masters exchanged: the same links with their numbers exchanged; only rows of equal distance may stand in another order. Every node has as much to spare.
-use Prim.Native.Nat.{ℕ, _-_}
+use Prim.Native.Nat.{ℕ, _-_, _≤_}
 use mathlib.Core.Path.{_≡_, refl, sym, _∙_, ap, ap₂}
 use mathlib.Core.Bool.{Bool, true, false, cond, _&&_, and-false, or-false}
 use mathlib.Core.List.{List, [], _∷_, map, List·Memᴰ, Memᴰ·cast, Memᴰ·of-map}
 use native.Mathlib.Omega.{arith}
 use lib.Dec.{eqb, ltb}
 use borrow.Author.Tests.{eq-eqb, le-ltb}
-use Rattle.matching.specs.Definitions.Lists.{All}
+use Rattle.matching.specs.Definitions.Lists.{All, Reordered}
 use Rattle.matching.specs.Definitions.Nodes.{Master, masterA, masterB, each, Node, Unique, capacityOf}
-use Rattle.matching.specs.Definitions.Pairs.{Pair, distance, pair, earlier}
-use Rattle.matching.specs.Definitions.Links.{Link, pairOf, amountOf}
+use Rattle.matching.specs.Definitions.Pairs.{Pair, distance, pair, earlier, Before, nearer, lowerA, lowerB}
+use Rattle.matching.specs.Definitions.Links.{Link, pairOf, exchange, amountOf, Increasing}
 use Rattle.matching.specs.Definitions.Join.{capacities, join, spare}
 use Rattle.matching.specs.Definitions.Stability.{Within, Blocked, Unblocked}
 use Rattle.matching.specs.Laws.Lists.{all-map, all-in, all-at, all-of-map}
 use Rattle.matching.specs.Laws.Distance.{distance-swap}
+use Rattle.matching.specs.Laws.Reordered.{Apart, same-elements, reordered-sum, sum-of-map, Ascending, ascending-same}
 use Rattle.matching.specs.Laws.Sums.{sum-cong}
 use Rattle.matching.specs.Laws.Amounts.{other, used-sum, carried}
-use Rattle.matching.specs.Theorems.Join.{Nodes, join-nodes, join-separate, join-amounts}
+use Rattle.matching.specs.Theorems.Join.{Nodes, join-nodes, join-separate, join-increasing, join-amounts}
 use Rattle.matching.specs.Theorems.Amounts.{join-within, join-unblocked, join-unique}
 
 distance-comm : (v w : Node) → distance v w ≡ distance w v
@@ -55,10 +56,6 @@ module _ (A B : List Node) (ua : Unique A) (ub : Unique B) where
   pub exchange-amounts : All (λ v. All (λ w. amountOf (join B A) (w .number) (v .number) ≡ amountOf (join A B) (v .number) (w .number)) B) A
   exchange-amounts = join-unique A B ua ub x within unblocked
 
--- A link with its numbers exchanged.
-abbrev pub exchange : Link → Link
-exchange l = record { a = l .b; b = l .a; distance = l .distance; amount = l .amount }
-
 and-comm : (s t : Bool) → (s && t) ≡ (t && s)
 and-comm true true = refl
 and-comm true false = refl
@@ -94,6 +91,35 @@ exchange-rows A B ua ub = all-map (λ l i. back l (Memᴰ·of-map exchange (join
   where
     back : (l : Link) → (k : Link) × List·Memᴰ k (join B A) × (exchange k ≡ l) → List·Memᴰ (exchange l) (join B A)
     back l h = Memᴰ·cast (ap exchange (sym (h .2))) (h .1)
+
+-- So the rows of one are those of the other with their numbers exchanged, each once;
+exchange-apart : (K : List Link) → Increasing K → Apart exchange K
+exchange-apart [] h = tt
+exchange-apart (l ∷ K) h = (all-map (λ k p e. differ l k p e) K (h .0), exchange-apart K (h .1))
+  where
+    differ : (l k : Link) → Before (pairOf l) (pairOf k) → exchange l ≡ exchange k → ⊥
+    differ l k (nearer p) e = omega (arith, p, ap (λ (x : Link). x .distance) e)
+    differ l k (lowerA q p) e = omega (arith, p, ap (λ (x : Link). x .b) e)
+    differ l k (lowerB q r p) e = omega (arith, p, ap (λ (x : Link). x .a) e)
+
+module _ (A B : List Node) (ua : Unique A) (ub : Unique B) where
+  pub exchange-reordered : Reordered (map exchange (join A B)) (join B A)
+  exchange-reordered = same-elements exchange exchange (join A B) (join B A) (exchange-rows A B ua ub) (exchange-rows B A ub ua)
+      (exchange-apart (join A B) (join-increasing A B)) (exchange-apart (join B A) (join-increasing B A))
+
+  -- and row for row they have the same distances.
+  pub exchange-distances : map (λ (l : Link). l .distance) (join B A) ≡ map (λ (l : Link). l .distance) (join A B)
+  exchange-distances = ascending-same (λ (l : Link). l .distance) (join B A) (join A B) (ascending (join B A) (join-increasing B A)) (ascending (join A B) (join-increasing A B))
+      (λ n. sym (reordered-sum (λ (l : Link). cond (eqb (l .distance) n) 1 0) exchange-reordered) ∙ sum-of-map (λ (l : Link). cond (eqb (l .distance) n) 1 0) exchange (join A B))
+    where
+      no-farther : (l k : Link) → Before (pairOf l) (pairOf k) → l .distance ≤ k .distance
+      no-farther l k (nearer p) = omega (arith, p)
+      no-farther l k (lowerA q p) = omega (arith, q)
+      no-farther l k (lowerB q r p) = omega (arith, q)
+
+      ascending : (K : List Link) → Increasing K → Ascending (λ (l : Link). l .distance) K
+      ascending [] h = tt
+      ascending (l ∷ K) h = (all-map (λ k p. no-farther l k p) K (h .0), ascending K (h .1))
 
 -- A master's node has as much to spare where its master comes in the other place.
 spare-a : (A B : List Node) → Unique A → Unique B → {v : Node} → List·Memᴰ v A → spare masterA A B (v .number) ≡ spare masterB B A (v .number)

@@ -7,32 +7,13 @@ use native.Mathlib.Decide.{ℕ-discrete}
 use lib.Dec.{eqb}
 use lib.ListN.{length}
 use borrow.Author.Tests.{eq-eqb, ne-eqb}
-use Rattle.matching.specs.Definitions.Lists.{All}
-use Rattle.matching.specs.Definitions.Nodes.{each, Node, Unique, capacityOf, Reordered, same, swap, skip, then}
+use Rattle.matching.specs.Definitions.Lists.{All, Reordered, same, swap, skip, then}
+use Rattle.matching.specs.Definitions.Nodes.{each, Node, Unique, capacityOf}
 use Rattle.matching.specs.Definitions.Pairs.{pair, pairs}
 use Rattle.matching.specs.Definitions.Join.{Left, capacities, lesser, consider, earliest, steps, whole, join}
 use Rattle.matching.specs.Laws.Earliest.{consider-comm, better, earliest-append, earliest-swap}
+use Rattle.matching.specs.Laws.Reordered.{reordered-length, reordered-all}
 use Rattle.matching.specs.Laws.Steps.{steps-same}
-
-pub reordered-length : {A C : List Node} → Reordered A C → length A ≡ length C
-reordered-length same = refl
-reordered-length (swap v w) = refl
-reordered-length (skip v r) = ap suc (reordered-length r)
-reordered-length (then r s) = reordered-length r ∙ reordered-length s
-
--- What is reordered can be put back.
-pub reordered-back : {A C : List Node} → Reordered A C → Reordered C A
-reordered-back same = same
-reordered-back (swap v w) = swap w v
-reordered-back (skip v r) = skip v (reordered-back r)
-reordered-back (then r s) = then (reordered-back s) (reordered-back r)
-
--- A property of every node is one in any order.
-pub reordered-all : (P : Node → Type 0) {A C : List Node} → Reordered A C → All P A → All P C
-reordered-all P same h = h
-reordered-all P (swap v w) h = (h .1 .0, (h .0, h .1 .1))
-reordered-all P (skip v r) h = (h .0, reordered-all P r (h .1))
-reordered-all P (then r s) h = reordered-all P s (reordered-all P r h)
 
 pub reordered-unique : {A C : List Node} → Reordered A C → Unique A → Unique C
 reordered-unique same u = u

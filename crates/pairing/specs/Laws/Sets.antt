@@ -7,7 +7,8 @@ use native.Mathlib.Omega.{arith}
 use lib.IntN.{ℤ}
 use lib.ListN.{length, replicate, getD-replicate, length-replicate}
 use Rattle.matching.specs.declared.Spans.{Spans}
-use Rattle.matching.specs.Definitions.Nodes.{Master, masterA, masterB, each, Node, Unique, Reordered}
+use Rattle.matching.specs.Definitions.Lists.{Reordered}
+use Rattle.matching.specs.Definitions.Nodes.{Master, masterA, masterB, each, Node, Unique}
 use Rattle.matching.specs.Definitions.Edits.{depart}
 use Rattle.matching.specs.Definitions.Sizes.{setRows}
 use Rattle.matching.specs.Definitions.Rows.{nodesOn, Spanned, Represents}

@@ -4,7 +4,8 @@ use mathlib.Core.Path.{_≡_, sym, _∙_, ap, ap₂, subst}
 use mathlib.Core.List.{List, [], _∷_, _++_, append-nil}
 use native.Mathlib.Decide.{ℕ-discrete}
 use native.Mathlib.Omega.{arith}
-use Rattle.matching.specs.Definitions.Nodes.{Node, Absent, Reordered, same, swap, skip, then}
+use Rattle.matching.specs.Definitions.Lists.{Reordered, same, swap, skip, then}
+use Rattle.matching.specs.Definitions.Nodes.{Node, Absent}
 use Rattle.matching.specs.Definitions.Edits.{depart}
 use Rattle.matching.specs.Definitions.Columns.{tabulate}
 use Rattle.matching.specs.Laws.Columns.{tabulate-all, tabulate-cong, tabulate-snoc, tabulate-split}

@@ -11,14 +11,15 @@ use lib.Seq.{getD-at}
 use borrow.Author.Tests.{lt-ltb, le-ltb}
 use Rattle.matching.specs.declared.Range.{Range}
 use Rattle.matching.specs.declared.Spans.{Spans}
-use Rattle.matching.specs.Definitions.Nodes.{Master, Node, Reordered}
+use Rattle.matching.specs.Definitions.Lists.{Reordered}
+use Rattle.matching.specs.Definitions.Nodes.{Master, Node}
 use Rattle.matching.specs.Definitions.Edits.{depart}
 use Rattle.matching.specs.Definitions.Columns.{tabulate}
 use Rattle.matching.specs.Definitions.Rows.{range, nodeIn}
 use Rattle.matching.specs.Definitions.Sizes.{nodeRows, setRows}
 use Rattle.matching.specs.Laws.Columns.{tabulate-length}
 use Rattle.matching.specs.Laws.Split.{Split, split}
-use Rattle.matching.specs.Theorems.RowOrder.{reordered-length}
+use Rattle.matching.specs.Laws.Reordered.{reordered-length}
 use Rattle.tables.specs.Definitions.Sizes.{nodeSize}
 use Rattle.tables.specs.Definitions.Tables.{nodeFrom, nodesIn}
 use Rattle.tables.specs.Laws.Edited.{has-none}

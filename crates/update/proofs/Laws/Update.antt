@@ -8,14 +8,16 @@ use lib.IntN.{ℤ}
 use lib.ListN.{length, getD}
 use Rattle.matching.specs.declared.Range.{Range}
 use Rattle.matching.specs.declared.Spans.{Spans}
-use Rattle.matching.specs.Definitions.Nodes.{Master, masterA, masterB, each, Node, Reordered}
+use Rattle.matching.specs.Definitions.Lists.{Reordered}
+use Rattle.matching.specs.Definitions.Nodes.{Master, masterA, masterB, each, Node}
 use Rattle.matching.specs.Definitions.Columns.{tabulate, Inside}
 use Rattle.matching.specs.Definitions.Rows.{range, On, Spanned, xAt, yAt, nodeIn, nodesOn, Fit}
 use Rattle.matching.specs.Definitions.Sizes.{nodeRows, linkRows, setRows}
 use Rattle.matching.specs.Laws.Amounts.{other}
 use Rattle.matching.specs.Laws.Columns.{tabulate-length, tabulate-get, tabulate-cong, same-place}
 use Rattle.matching.specs.Laws.Lists.{all-get}
-use Rattle.matching.specs.Theorems.RowOrder.{reordered-all, reordered-unique}
+use Rattle.matching.specs.Laws.Reordered.{reordered-all}
+use Rattle.matching.specs.Theorems.RowOrder.{reordered-unique}
 use Rattle.tables.specs.Definitions.Sizes.{tableSize}
 use Rattle.tables.specs.Definitions.Tables.{nodesIn, GoodNode}
 use Rattle.tables.specs.Definitions.Edits.{masterOf, numberOf}
