@@ -96,6 +96,32 @@ pub fn fault_of_links(a: &[Node], b: &[Node], links: &[Link]) -> Option<String> 
         .map(|(i, j)| format!("blocked pair A {} B {}", a[i].number, b[j].number))
 }
 
+/// What is wrong with the links of the masters lent in the opposite order, if
+/// anything. Distances are held row by row, since a comparison as sets misses a
+/// wrong order; rows of equal distance are free to change places.
+pub fn fault_of_exchange(links: &[Link], opposite: &[Link]) -> Option<String> {
+    let (count, count_opposite) = (links.len(), opposite.len());
+    if count != count_opposite {
+        return Some(format!("{count} links, {count_opposite} in opposite order"));
+    }
+    let mut rows = links.iter().zip(opposite);
+    if let Some(row) = rows.position(|(one, other)| one.distance != other.distance) {
+        return Some(format!("unlike distances in row {row}"));
+    }
+    let mut links = links.to_vec();
+    let mut exchanged: Vec<Link> = opposite.iter().map(Link::exchanged).collect();
+    let numbers = |link: &Link| (link.a, link.b);
+    links.sort_by_key(numbers);
+    exchanged.sort_by_key(numbers);
+    // Without repeats, sorted lists that agree have each link exactly once.
+    if let Some(two) = links.windows(2).find(|w| numbers(&w[0]) == numbers(&w[1])) {
+        return Some(format!("two links of one pair, {two:?}"));
+    }
+    let mut both = links.iter().zip(&exchanged);
+    both.find(|(one, other)| one != other)
+        .map(|(one, other)| format!("{one:?} where the exchanged have {other:?}"))
+}
+
 /// The rows ahead of the first one that names the edited node, in the list
 /// before or in the list after the edit, are the same; all where none does.
 pub fn rows_ahead_same(before: &[u8], after: &[u8], master: u64, number: u64) -> bool {

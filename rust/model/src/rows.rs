@@ -97,6 +97,15 @@ impl Link {
         }
     }
 
+    /// The link as it stands where the masters are lent in the opposite order.
+    pub fn exchanged(&self) -> Link {
+        Link {
+            a: self.b,
+            b: self.a,
+            ..*self
+        }
+    }
+
     pub fn bytes(&self) -> [u8; LINK_BYTES] {
         let mut row = [0; LINK_BYTES];
         LINK_A.write(&mut row, self.a);

@@ -4,7 +4,7 @@
 use model::buffers::{links_of, list_of, list_row_mut};
 use model::calls;
 use model::checks::*;
-use model::generate::drawing::{Drawing, Size, CAPACITIES, NUMBERS};
+use model::generate::drawing::{each_drawing, Drawing, Size, CAPACITIES, NUMBERS};
 use model::generate::places::FAMILIES;
 use model::generate::random::Random;
 use model::join::{join_by_copies, join_by_search, join_by_sorting};
@@ -20,27 +20,6 @@ fn copies_are_cheap(drawing: &Drawing) -> bool {
     let units = |nodes: &[Node]| nodes.iter().map(|node| node.capacity).sum::<u64>();
     let (a, b) = (units(&drawing.a), units(&drawing.b));
     a * b * a.min(b) <= COPIES_WORK
-}
-
-/// Calls the test with drawings of every class, and gives their number.
-fn each_drawing(start: u64, plan: &[(Size, u64)], mut test: impl FnMut(u64, &Drawing)) -> u64 {
-    let mut drawings = 0;
-    for (size, repeats) in plan {
-        for family in FAMILIES {
-            for capacities in CAPACITIES {
-                for numbers in NUMBERS {
-                    for _ in 0..*repeats {
-                        let seed = start + drawings;
-                        let mut random = Random::new(seed);
-                        let drawing = Drawing::of(&mut random, family, *size, capacities, numbers);
-                        test(seed, &drawing);
-                        drawings += 1;
-                    }
-                }
-            }
-        }
-    }
-    drawings
 }
 
 fn joins_agree(seed: u64, drawing: &Drawing) -> Vec<Link> {

@@ -160,6 +160,28 @@ impl Drawing {
     }
 }
 
+/// Calls the test with drawings of every class, as often for each size as the
+/// plan says, and gives their number. Seeds count up from the start.
+pub fn each_drawing(start: u64, plan: &[(Size, u64)], mut test: impl FnMut(u64, &Drawing)) -> u64 {
+    let mut drawings = 0;
+    for (size, repeats) in plan {
+        for family in FAMILIES {
+            for capacities in CAPACITIES {
+                for numbers in NUMBERS {
+                    for _ in 0..*repeats {
+                        let seed = start + drawings;
+                        let mut random = Random::new(seed);
+                        let drawing = Drawing::of(&mut random, family, *size, capacities, numbers);
+                        test(seed, &drawing);
+                        drawings += 1;
+                    }
+                }
+            }
+        }
+    }
+    drawings
+}
+
 fn master(
     random: &mut Random,
     places: &[Place],
