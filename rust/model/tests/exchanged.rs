@@ -126,11 +126,7 @@ fn exchange_holds(seed: u64, drawing: &Drawing, every: usize, seen: &mut Seen) {
         assert_eq!(paired.answer, links.len() as u32, "Pair, {}", what());
         assert!(paired.list == list_of(&links), "Pair, {}", what());
     }
-    let (links, mut opposite_links) = (one_way.links(), opposite.links());
-    let taken: Vec<u64> = opposite_links.iter().map(|l| l.amount).collect();
-    for (row, link) in opposite_links.iter_mut().enumerate() {
-        link.amount = taken[(row + 1) % taken.len()];
-    }
+    let (links, opposite_links) = (one_way.links(), opposite.links());
     let fault = fault_of_exchange(&links, &opposite_links);
     assert_eq!(fault, None, "Pair, {}", what());
     seen.count(drawing, &links, &opposite_links);
