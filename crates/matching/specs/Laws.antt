@@ -1,6 +1,7 @@
 -- Laws that the theorems and the code's proofs lean on.
 pub mod Lists
 pub mod Loops
+pub mod Sorts
 pub mod Order
 pub mod Distance
 pub mod Left
@@ -17,6 +18,8 @@ pub mod Split
 pub mod Undo
 pub mod Without
 pub mod Amounts
+pub mod Parts
 pub mod Columns
 pub mod Sets
+pub mod Both
 pub mod Spent

@@ -9,3 +9,4 @@ pub mod Locality
 pub mod RowOrder
 pub mod Exchange
 pub mod Checked
+pub mod Sorts

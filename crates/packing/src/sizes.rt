@@ -14,3 +14,6 @@ pub const BUCKETS: usize = 256;
 pub const BLOCK: usize = matching::sizes::BLOCK;
 
 pub const SIDE: usize = 4;
+
+// So few rows stay as they stand: they fill two blocks at most, and an order saves less than it costs.
+pub const FEW: usize = 64;

@@ -4,7 +4,7 @@ use mathlib.Core.Bool.{Bool, cond, _&&_}
 use mathlib.Core.List.{List, [], _∷_}
 use lib.Dec.{eqb}
 use Rattle.matching.specs.Definitions.Lists.{All, sumOver}
-use Rattle.matching.specs.Definitions.Nodes.{Master}
+use Rattle.matching.specs.Definitions.Nodes.{Master, Node, has}
 use Rattle.matching.specs.Definitions.Pairs.{Pair, numberIn, Before}
 
 pub record Link : Type 0 where
@@ -37,6 +37,12 @@ used s K n = sumOver (λ (l : Link). cond (eqb (numberIn s (pairOf l)) n) (l .am
 abbrev pub Increasing : List Link → Type 0
 Increasing [] = Unit {0}
 Increasing (l ∷ K) = All (λ (k : Link). Before (pairOf l) (pairOf k)) K × Increasing K
+
+-- The links of these nodes of A, in their order.
+unfoldable pub linksFor : List Node → List Link → List Link
+unfolding has
+linksFor A [] = []
+linksFor A (l ∷ K) = cond (has (l .a) A) (l ∷ linksFor A K) (linksFor A K)
 
 abbrev pub sameLink : Link → Link → Bool
 sameLink k l = eqb (k .a) (l .a) && eqb (k .b) (l .b) && eqb (k .distance) (l .distance) && eqb (k .amount) (l .amount)

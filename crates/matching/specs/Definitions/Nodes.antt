@@ -17,11 +17,17 @@ abbrev pub each : {X : Type 0} → X → X → Master → X
 each x y masterA = x
 each x y masterB = y
 
+abbrev pub other : Master → Master
+other masterA = masterB
+other masterB = masterA
+
+-- A node is of a sort: 0 is on-curve, 1 off-curve.
 pub record Node : Type 0 where
   pub number : ℕ
   pub x : ℤ
   pub y : ℤ
   pub capacity : ℕ
+  pub sort : ℕ
 
 abbrev pub numbers : List Node → List ℕ
 numbers = map (λ (v : Node). v .number)
@@ -48,3 +54,8 @@ place n (v ∷ A) = cond (eqb (v .number) n) 0 (suc (place n A))
 unfoldable pub capacityOf : List Node → ℕ → ℕ
 capacityOf [] n = 0
 capacityOf (v ∷ A) n = cond (eqb (v .number) n) (v .capacity) (capacityOf A n)
+
+-- The nodes of the sort s, in their order.
+unfoldable pub ofSort : ℕ → List Node → List Node
+ofSort s [] = []
+ofSort s (v ∷ A) = cond (eqb (v .sort) s) (v ∷ ofSort s A) (ofSort s A)

@@ -1,11 +1,12 @@
 -- Nodes and links as code holds them: both masters in one set of rows, read by index, and a row for each link.
-use Prim.Native.Nat.{ℕ, _+_, _-_, _*_, _/_, _<_, _≤_}
+use Prim.Native.Nat.{ℕ, zero, suc, _+_, _-_, _*_, _/_, _<_, _≤_}
 use mathlib.Core.Path.{_≡_}
-use mathlib.Core.List.{List, []}
+use mathlib.Core.List.{List, [], _++_}
 use lib.ListN.{length, getD}
 use lib.IntN.{ℤ, pos}
 use Rattle.matching.specs.declared.Range.{Range}
 use Rattle.matching.specs.declared.Spans.{Spans}
+use Rattle.matching.specs.declared.Sorts.{Sorts}
 use Rattle.matching.specs.Definitions.Lists.{Reordered}
 use Rattle.matching.specs.Definitions.Nodes.{Master, each, Node}
 use Rattle.matching.specs.Definitions.Pairs.{squaredDistance}
@@ -18,7 +19,16 @@ use Rattle.matching.specs.Definitions.Sizes.{nodeRows, linkRows, half, s
 abbrev pub range : Spans → Master → Range
 range s = each (s .a) (s .b)
 
--- Row k is one of them.
+-- How many they are.
+abbrev pub size : Range → ℕ
+size r = r .to - r .from
+
+-- The rows of a sort: the on-curve ones, or the off-curve ones.
+abbrev pub spansOf : Sorts → ℕ → Spans
+spansOf S zero = S .on
+spansOf S (suc t) = S .off
+
+-- Row k is one of a master's.
 abbrev pub On : Spans → Master → ℕ → Type 0
 On s m k = (range s m .from ≤ k) × (k < range s m .to)
 
@@ -57,14 +67,19 @@ pub record Placed (at : List (List ℤ)) (k : ℕ) : Type 0 where
 unfoldable pub gap : List (List ℤ) → ℕ → List (List ℤ) → ℕ → ℕ
 gap at i to k = squaredDistance (xAt at i) (yAt at i) (xAt to k) (yAt to k)
 
--- The node that row k denotes: its number, its position, and its capacity or what it has left.
-abbrev pub nodeIn : List ℕ → List (List ℤ) → List ℕ → ℕ → Node
-nodeIn ns at cs k = record { number = getD ns k 0; x = xAt at k; y = yAt at k; capacity = getD cs k 0 }
+-- The node that row k denotes, of a sort that goes by the range: its number, its position, and its capacity or what it has left.
+abbrev pub nodeIn : ℕ → List ℕ → List (List ℤ) → List ℕ → ℕ → Node
+nodeIn t ns at cs k = record { number = getD ns k 0; x = xAt at k; y = yAt at k; capacity = getD cs k 0; sort = t }
 
--- The nodes of a master.
-unfoldable pub nodesOn : Spans → List ℕ → List (List ℤ) → List ℕ → Master → List Node
+-- The nodes of a master that are of the sort t,
+unfoldable pub nodesOn : ℕ → Spans → List ℕ → List (List ℤ) → List ℕ → Master → List Node
 unfolding tabulate
-nodesOn s ns at cs m = tabulate (nodeIn ns at cs) (range s m .from) (range s m .to - range s m .from)
+nodesOn t s ns at cs m = tabulate (nodeIn t ns at cs) (range s m .from) (size (range s m))
+
+-- and all of them.
+unfoldable pub nodesOf : Sorts → List ℕ → List (List ℤ) → List ℕ → Master → List Node
+unfolding nodesOn
+nodesOf S ns at cs m = nodesOn 0 (S .on) ns at cs m ++ nodesOn 1 (S .off) ns at cs m
 
 -- A row as a link: A number, B number, distance, amount.
 abbrev pub linkOf : List ℕ → Link
@@ -78,7 +93,7 @@ unfoldable pub linksIn : List (List ℕ) → ℕ → List Link
 unfolding tabulate
 linksIn L n = tabulate (linkIn L) 0 n
 
--- A set of rows on which code works: every position is inside, and no number stands twice in a master.
+-- The rows of a sort on which code works: every position is inside, and no number stands twice in a master.
 pub record Fit (ns : List ℕ) (at : List (List ℤ)) (cs : List ℕ) (s : Spans) : Type 0 where
   pub numbers : length ns ≡ setRows
   pub positions : length at ≡ setRows
@@ -87,10 +102,17 @@ pub record Fit (ns : List ℕ) (at : List (List ℤ)) (cs : List ℕ) (s : Spans
   pub inside : (m : Master) (k : ℕ) → On s m k → Inside (xAt at k) (yAt at k)
   pub distinct : (m : Master) (i k : ℕ) → On s m i → On s m k → getD ns i 0 ≡ getD ns k 0 → i ≡ k
 
+-- A set of rows on which code works: a master's on-curve rows stand ahead of its off-curve ones, and no number stands in both.
+pub record Fits (ns : List ℕ) (at : List (List ℤ)) (cs : List ℕ) (S : Sorts) : Type 0 where
+  pub fit : (t : ℕ) → Fit ns at cs (spansOf S t)
+  pub most : (m : Master) → size (range (S .on) m) + size (range (S .off) m) ≤ nodeRows
+  pub ahead : (m : Master) → range (S .on) m .to ≤ range (S .off) m .from
+  pub apart : (m : Master) (i k : ℕ) → On (S .on) m i → On (S .off) m k → getD ns i 0 ≡ getD ns k 0 → ⊥
+
 -- The set's rows are the nodes of both masters, each master's in some order.
-pub record Represents (A B : List Node) (ns : List ℕ) (at : List (List ℤ)) (cs : List ℕ) (s : Spans) : Type 0 where
-  pub fit : Fit ns at cs s
-  pub nodes : (m : Master) → Reordered (each A B m) (nodesOn s ns at cs m)
+pub record Represents (A B : List Node) (ns : List ℕ) (at : List (List ℤ)) (cs : List ℕ) (S : Sorts) : Type 0 where
+  pub fits : Fits ns at cs S
+  pub nodes : (m : Master) → Reordered (each A B m) (nodesOf S ns at cs m)
 
 -- The first n of the link rows are the join of two masters.
 pub record Joined (A B : List Node) (L : List (List ℕ)) (n : ℕ) : Type 0 where

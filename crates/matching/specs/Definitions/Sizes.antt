@@ -15,19 +15,19 @@ nodeRows = 512
 abbrev pub linkRows : ℕ
 linkRows = 1023
 
--- The rows of both masters in one set: A's stand below half, B's from there on.
+-- The rows of both masters in one set: A's stand below half, B's from there on. Each sort begins with a block and has room for a row more.
 abbrev pub half : ℕ
-half = 512
+half = 576
 
 abbrev pub setRows : ℕ
-setRows = 1024
+setRows = 1152
 
 -- The rows of a block, and the blocks of the set.
 abbrev pub blockRows : ℕ
 blockRows = 32
 
 abbrev pub setBlocks : ℕ
-setBlocks = 32
+setBlocks = 36
 
 -- Node numbers are below this: a key is a distance times it, plus a number.
 abbrev pub numberRange : ℕ

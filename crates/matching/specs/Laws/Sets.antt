@@ -17,7 +17,7 @@ use Rattle.matching.specs.Definitions.Lists.{All}
 use Rattle.matching.specs.Definitions.Nodes.{Master, Node, Unique}
 use Rattle.matching.specs.Definitions.Links.{Link}
 use Rattle.matching.specs.Definitions.Columns.{tabulate, edge, Inside}
-use Rattle.matching.specs.Definitions.Rows.{range, On, xAt, yAt, gap, nodeIn, nodesOn, linkOf, linkIn, linksIn, Fit}
+use Rattle.matching.specs.Definitions.Rows.{range, size, On, xAt, yAt, gap, nodeIn, nodesOn, linkOf, linkIn, linksIn, Fit}
 use Rattle.matching.specs.Laws.Columns.{tabulate-length, tabulate-all, tabulate-cong, tabulate-snoc}
 use Rattle.matching.specs.Laws.Distance.{distance-swap, inside-reach, distance-fits}
 
@@ -30,10 +30,10 @@ pub inside-back : (z : ℤ) → natAbs z ≤ edge → toZ w16 (ofZ w16 z) ≡ z
 inside-back z h = toZ-ofZ (inside-fits z h)
 
 -- The nodes of a master: how many, and each by its row.
-module _ (s : Spans) (ns : List ℕ) (at : List (List ℤ)) (cs : List ℕ) (m : Master) where
-  pub on-length : length (nodesOn s ns at cs m) ≡ range s m .to - range s m .from
+module _ (t : ℕ) (s : Spans) (ns : List ℕ) (at : List (List ℤ)) (cs : List ℕ) (m : Master) where
+  pub on-length : length (nodesOn t s ns at cs m) ≡ size (range s m)
   unfolding nodesOn
-  on-length = tabulate-length (nodeIn ns at cs) (range s m .from) (range s m .to - range s m .from)
+  on-length = tabulate-length (nodeIn t ns at cs) (range s m .from) (size (range s m))
 
 -- A row written is there, and the others stay.
 pub written-at : (L : List (List ℕ)) (j : ℕ) (x : List ℕ) → j < length L → linkIn (set L j x) j ≡ linkOf x
@@ -67,19 +67,19 @@ tabulate-unique f k (suc n) h = (
   tabulate-unique f (suc k) n (λ i j a b c d e. h i j (omega arith) (omega arith) (omega arith) (omega arith) e),
 )
 
-module _ (s : Spans) (ns : List ℕ) (at : List (List ℤ)) (cs : List ℕ) (m : Master) where
-  pub on-all : (P : Node → Type 0) → ((k : ℕ) → On s m k → P (nodeIn ns at cs k)) → All P (nodesOn s ns at cs m)
+module _ (t : ℕ) (s : Spans) (ns : List ℕ) (at : List (List ℤ)) (cs : List ℕ) (m : Master) where
+  pub on-all : (P : Node → Type 0) → ((k : ℕ) → On s m k → P (nodeIn t ns at cs k)) → All P (nodesOn t s ns at cs m)
   unfolding nodesOn
-  on-all P h = tabulate-all P (nodeIn ns at cs) (range s m .from) (range s m .to - range s m .from) (λ k l g. h k (l, omega arith))
+  on-all P h = tabulate-all P (nodeIn t ns at cs) (range s m .from) (size (range s m)) (λ k l g. h k (l, omega arith))
 
-  pub on-in : (k : ℕ) → On s m k → List·Memᴰ (nodeIn ns at cs k) (nodesOn s ns at cs m)
+  pub on-in : (k : ℕ) → On s m k → List·Memᴰ (nodeIn t ns at cs k) (nodesOn t s ns at cs m)
   unfolding nodesOn
-  on-in k h = tabulate-in (nodeIn ns at cs) (range s m .from) (range s m .to - range s m .from) k (h .0) (omega arith)
+  on-in k h = tabulate-in (nodeIn t ns at cs) (range s m .from) (size (range s m)) k (h .0) (omega arith)
 
-  pub on-unique : Fit ns at cs s → Unique (nodesOn s ns at cs m)
+  pub on-unique : Fit ns at cs s → Unique (nodesOn t s ns at cs m)
   unfolding nodesOn
   on-unique f =
-      tabulate-unique (nodeIn ns at cs) (range s m .from) (range s m .to - range s m .from) (λ i j a b c d. f .distinct m i j (a, omega arith) (c, omega arith))
+      tabulate-unique (nodeIn t ns at cs) (range s m .from) (size (range s m)) (λ i j a b c d. f .distinct m i j (a, omega arith) (c, omega arith))
 
 -- What holds of each row of links holds of each link.
 pub in-all : (P : Link → Type 0) (L : List (List ℕ)) (n : ℕ) → ((k : ℕ) → k < n → P (linkIn L k)) → All P (linksIn L n)

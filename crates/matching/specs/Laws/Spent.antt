@@ -1,7 +1,7 @@
 -- For code: rows that have nothing left may be dropped; the links still to be taken stay the same.
 use Prim.Native.Nat.{ℕ, zero, suc, _+_, _≤_}
 use mathlib.Core.Path.{_≡_, refl, sym, _∙_, ap, ap₂, subst}
-use mathlib.Core.Bool.{cond}
+use mathlib.Core.Bool.{Bool, true, false, cond}
 use mathlib.Core.Option.{none}
 use mathlib.Core.List.{List, [], _∷_, map}
 use native.Mathlib.Decide.{ℕ-discrete}
@@ -10,8 +10,8 @@ use lib.Dec.{eqb}
 use lib.ListN.{length}
 use borrow.Author.Tests.{eq-eqb, ne-eqb}
 use Rattle.matching.specs.Definitions.Lists.{All}
-use Rattle.matching.specs.Definitions.Nodes.{Master, masterA, masterB, Node, Absent, Unique}
-use Rattle.matching.specs.Definitions.Pairs.{pair, pairs}
+use Rattle.matching.specs.Definitions.Nodes.{Master, masterA, masterB, Node, Absent, Unique, ofSort}
+use Rattle.matching.specs.Definitions.Pairs.{Pair, pair, pairs}
 use Rattle.matching.specs.Definitions.Join.{Left, lesser, taken, consider, earliest, whole}
 use Rattle.matching.specs.Laws.Lists.{all-map, all-true, all-of-map}
 use Rattle.matching.specs.Laws.Left.{taken-le, lesser-none}
@@ -107,31 +107,58 @@ row-none : (v : Node) (B : List Node) (d : Left) → d masterA (v .number) ≡ 0
 unfolding pair
 row-none v B d e = earliest-none (map (pair v) B) d (all-of-map (λ q. lesser d q ≡ 0) (pair v) B (all-true (λ w. lesser-none d (pair v w) masterA e) B))
 
+abbrev row : Node → List Node → List Pair
+row v B = map (pair v) (ofSort (v .sort) B)
+
 earliest-keep-a : (A B : List Node) (ks : List ℕ) (d : Left) → Dead (d masterA) A ks → earliest (pairs A B) d ≡ earliest (pairs (keepNodes A ks) B) d
 unfolding pairs keepNodes better
 earliest-keep-a [] B ks d h = refl
-earliest-keep-a (v ∷ A) B [] d h = earliest-append (map (pair v) B) (pairs A B) d ∙ rw (row-none v B d (h .0)) (earliest-keep-a A B [] d (h .1) ∙ rw (keep-none A))
-earliest-keep-a (v ∷ A) B (zero ∷ ks) d h = earliest-append (map (pair v) B) (pairs A B) d ∙ rw (row-none v B d (h .0)) (earliest-keep-a A B ks d (h .1))
+earliest-keep-a (v ∷ A) B [] d h = earliest-append (row v B) (pairs A B) d ∙ rw (row-none v (ofSort (v .sort) B) d (h .0)) (earliest-keep-a A B [] d (h .1) ∙ rw (keep-none A))
+earliest-keep-a (v ∷ A) B (zero ∷ ks) d h = earliest-append (row v B) (pairs A B) d ∙ rw (row-none v (ofSort (v .sort) B) d (h .0)) (earliest-keep-a A B ks d (h .1))
 earliest-keep-a (v ∷ A) B (suc k ∷ ks) d h =
-    earliest-append (map (pair v) B) (pairs A B) d
-    ∙ ap (better (earliest (map (pair v) B) d)) (earliest-keep-a A B ks d h)
-    ∙ sym (earliest-append (map (pair v) B) (pairs (keepNodes A ks) B) d)
+    earliest-append (row v B) (pairs A B) d ∙ ap (better (earliest (row v B) d)) (earliest-keep-a A B ks d h) ∙ sym (earliest-append (row v B) (pairs (keepNodes A ks) B) d)
 
 -- and within a row those of B.
-row-keep : (v : Node) (B : List Node) (ls : List ℕ) (d : Left) → Dead (d masterB) B ls → earliest (map (pair v) B) d ≡ earliest (map (pair v) (keepNodes B ls)) d
-unfolding keepNodes earliest consider pair
+module _ (v w : Node) (d : Left) where
+  row-past : (B : List Node) → d masterB (w .number) ≡ 0 → earliest (row v (w ∷ B)) d ≡ earliest (row v B) d
+  unfolding ofSort earliest consider pair
+  row-past B e = go (eqb (w .sort) (v .sort))
+    where
+      C : List Node
+      C = ofSort (v .sort) B
+
+      go : (t : Bool) → earliest (map (pair v) (cond t (w ∷ C) C)) d ≡ earliest (map (pair v) C) d
+      go true = rw (lesser-none d (pair v w) masterB e)
+      go false = refl
+
+  row-on : (B C : List Node) → earliest (row v B) d ≡ earliest (row v C) d → earliest (row v (w ∷ B)) d ≡ earliest (row v (w ∷ C)) d
+  unfolding ofSort earliest consider pair
+  row-on B C e = go (eqb (w .sort) (v .sort))
+    where
+      B' : List Node
+      B' = ofSort (v .sort) B
+
+      C' : List Node
+      C' = ofSort (v .sort) C
+
+      go : (t : Bool) → earliest (map (pair v) (cond t (w ∷ B') B')) d ≡ earliest (map (pair v) (cond t (w ∷ C') C')) d
+      go true = ap (consider (pair v w) (lesser d (pair v w))) e
+      go false = e
+
+row-keep : (v : Node) (B : List Node) (ls : List ℕ) (d : Left) → Dead (d masterB) B ls → earliest (row v B) d ≡ earliest (row v (keepNodes B ls)) d
+unfolding keepNodes
 row-keep v [] ls d h = refl
-row-keep v (w ∷ B) [] d h = rw (lesser-none d (pair v w) masterB (h .0)) (row-keep v B [] d (h .1) ∙ rw (keep-none B))
-row-keep v (w ∷ B) (zero ∷ ls) d h = rw (lesser-none d (pair v w) masterB (h .0)) (row-keep v B ls d (h .1))
-row-keep v (w ∷ B) (suc k ∷ ls) d h = ap (consider (pair v w) (lesser d (pair v w))) (row-keep v B ls d h)
+row-keep v (w ∷ B) [] d h = row-past v w d B (h .0) ∙ row-keep v B [] d (h .1) ∙ rw (keep-none B)
+row-keep v (w ∷ B) (zero ∷ ls) d h = row-past v w d B (h .0) ∙ row-keep v B ls d (h .1)
+row-keep v (w ∷ B) (suc k ∷ ls) d h = row-on v w d B (keepNodes B ls) (row-keep v B ls d h)
 
 earliest-keep-b : (A B : List Node) (ls : List ℕ) (d : Left) → Dead (d masterB) B ls → earliest (pairs A B) d ≡ earliest (pairs A (keepNodes B ls)) d
 unfolding pairs
 earliest-keep-b [] B ls d h = refl
 earliest-keep-b (v ∷ A) B ls d h =
-    earliest-append (map (pair v) B) (pairs A B) d
+    earliest-append (row v B) (pairs A B) d
     ∙ ap₂ better (row-keep v B ls d h) (earliest-keep-b A B ls d h)
-    ∙ sym (earliest-append (map (pair v) (keepNodes B ls)) (pairs A (keepNodes B ls)) d)
+    ∙ sym (earliest-append (row v (keepNodes B ls)) (pairs A (keepNodes B ls)) d)
 
 earliest-keep : (s : Master) (A B : List Node) (ks : List ℕ) (d : Left) → Dead (d s) A ks → earliest (pairsFrom s A B) d ≡ earliest (pairsFrom s (keepNodes A ks) B) d
 earliest-keep masterA A B ks d h = earliest-keep-a A B ks d h

@@ -7,7 +7,7 @@ use native.Mathlib.Omega.{arith}
 use lib.Dec.{eqb, ltb}
 use borrow.Author.Tests.{eq-eqb, le-ltb}
 use Rattle.matching.specs.Definitions.Lists.{All, Reordered}
-use Rattle.matching.specs.Definitions.Nodes.{Master, masterA, masterB, each, Node, Unique, capacityOf}
+use Rattle.matching.specs.Definitions.Nodes.{Master, masterA, masterB, each, other, Node, Unique, capacityOf}
 use Rattle.matching.specs.Definitions.Pairs.{Pair, distance, pair, earlier, Before, nearer, lowerA, lowerB}
 use Rattle.matching.specs.Definitions.Links.{Link, pairOf, exchange, amountOf, Increasing}
 use Rattle.matching.specs.Definitions.Join.{capacities, join, spare}
@@ -16,7 +16,7 @@ use Rattle.matching.specs.Laws.Lists.{all-map, all-in, all-at, all-of-ma
 use Rattle.matching.specs.Laws.Distance.{distance-swap}
 use Rattle.matching.specs.Laws.Reordered.{Apart, same-elements, reordered-sum, sum-of-map, Ascending, ascending-same}
 use Rattle.matching.specs.Laws.Sums.{sum-cong}
-use Rattle.matching.specs.Laws.Amounts.{other, used-sum, carried}
+use Rattle.matching.specs.Laws.Amounts.{used-sum, carried}
 use Rattle.matching.specs.Theorems.Join.{Nodes, join-nodes, join-separate, join-increasing, join-amounts}
 use Rattle.matching.specs.Theorems.Amounts.{join-within, join-unblocked, join-unique}
 
@@ -43,10 +43,14 @@ module _ (A B : List Node) (ua : Unique A) (ub : Unique B) where
   x a b = amountOf (join B A) b a
 
   within : Within A B x
-  within = record { on-a = join-within B A ub ua .on-b; on-b = join-within B A ub ua .on-a }
+  within = record { alike = alike; on-a = join-within B A ub ua .on-b; on-b = join-within B A ub ua .on-a }
+    where
+      alike : All (λ v. All (λ w. (v .sort ≡ w .sort → ⊥) → x (v .number) (w .number) ≡ 0) B) A
+      alike = all-in A (λ v i. all-in B (λ w j n. all-at (λ v. (w .sort ≡ v .sort → ⊥) → x (v .number) (w .number) ≡ 0)
+          (all-at (λ w. All (λ v. (w .sort ≡ v .sort → ⊥) → x (v .number) (w .number) ≡ 0) A) (join-within B A ub ua .alike) j) i (λ e. n (sym e))))
 
   blocked : (v w : Node) → Blocked A B x v w → Blocked B A (amountOf (join B A)) w v
-  blocked v w h = record { on-a = simp (row-order w v) (h .on-b); on-b = simp (row-order v w) at (h .on-a) }
+  blocked v w h = record { alike = sym (h .alike); on-a = simp (row-order w v) (h .on-b); on-b = simp (row-order v w) at (h .on-a) }
 
   unblocked : Unblocked A B x
   unblocked = all-in A (λ v i. all-in B (λ w j h. all-at (λ v. ¬ Blocked B A (amountOf (join B A)) w v)
@@ -74,6 +78,7 @@ nodes-exchange A B k n = record {
   w = n .v;
   in-a = n .in-b;
   in-b = n .in-a;
+  alike = sym (n .alike);
   is-pair = λ i. record {
     distance = (ap (λ (p : Pair). p .distance) (n .is-pair) ∙ distance-comm (n .v) (n .w)) i;
     a = n .is-pair i .b;

@@ -123,6 +123,6 @@ module _ (s : Master) (B : List Node) where
   pub move : (A : List Node) (n : ℕ) (x y : ℤ) → Unique A → has n A ≡ true → Local (Names s n) (joinFrom s A B) (joinFrom s (amend (moved x y) n A) B)
   move A n x y = amendment A n (moved x y) (λ v. refl)
 
-  -- or a new capacity.
-  pub resize : (A : List Node) (n k : ℕ) → Unique A → has n A ≡ true → Local (Names s n) (joinFrom s A B) (joinFrom s (amend (resized k) n A) B)
-  resize A n k = amendment A n (resized k) (λ v. refl)
+  -- or a new capacity and sort.
+  pub resize : (A : List Node) (n k t : ℕ) → Unique A → has n A ≡ true → Local (Names s n) (joinFrom s A B) (joinFrom s (amend (resized k t) n A) B)
+  resize A n k t = amendment A n (resized k t) (λ v. refl)
