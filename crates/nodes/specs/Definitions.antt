@@ -24,7 +24,7 @@ position z = field (sign z) (natAbs z)
 
 -- A line with a node's fields behind a word.
 unfoldable pub entry : List ℕ → Node → List ℕ
-entry word v = field word (v .number) ++ position (v .x) ++ position (v .y) ++ lastField (bytes " ") (v .capacity)
+entry word v = field word (v .number) ++ position (v .x) ++ position (v .y) ++ field (bytes " ") (v .capacity) ++ lastField (bytes " ") (v .sort)
 
 -- A node of the table, and the node with the number.
 abbrev pub nodeLine : Node → List ℕ

@@ -77,7 +77,8 @@ fn put_node(text: &mut [u8], at: usize, word: &[u8], v: Node) -> usize
     let first = put_field(text, at, word, v.number);
     let second = put_position(text, first, v.x);
     let third = put_position(text, second, v.y);
-    put_last(text, third, b" ", v.capacity)
+    let fourth = put_field(text, third, b" ", v.capacity);
+    put_last(text, fourth, b" ", v.sort)
 }
 
 // A line for each node.

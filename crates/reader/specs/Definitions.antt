@@ -54,8 +54,8 @@ nodeOf t k n = cond (eqb (length t) tableSize && leb k nodeRows) (numbered n (no
 
 -- The code's own node as the definitions have it, and its answer, by cases.
 abbrev pub asNode : Held → Node
-asNode v = record { number = v .number; x = v .x; y = v .y; capacity = v .capacity }
+asNode v = record { number = v .number; x = v .x; y = v .y; capacity = v .capacity; sort = v .sort }
 
 abbrev pub foundOf : Option Node → Found
 foundOf none = Nothing
-foundOf (some v) = One (record { number = v .number; x = v .x; y = v .y; capacity = v .capacity })
+foundOf (some v) = One (record { number = v .number; x = v .x; y = v .y; capacity = v .capacity; sort = v .sort })

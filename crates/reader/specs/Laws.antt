@@ -188,7 +188,7 @@ module _ (t : List ℕ) (size : length t ≡ tableSize) where
 -- The code's answer taken apart.
 pub found-one : (o : Option Node) (v : Held) → foundOf o ≡ One v → o ≡ some (asNode v)
 found-one none v e = absurd (let z : _≡_ {A = ℕ} 0 1 = cc in omega arith)
-found-one (some w) v e = let i : _≡_ {A = Held} (record { number = w .number; x = w .x; y = w .y; capacity = w .capacity }) v = cc in ap (λ (u : Held). some (asNode u)) i
+found-one (some w) v e = let i : _≡_ {A = Held} (record { number = w .number; x = w .x; y = w .y; capacity = w .capacity; sort = w .sort }) v = cc in ap (λ (u : Held). some (asNode u)) i
 
 pub found-nothing : (o : Option Node) → foundOf o ≡ Nothing → o ≡ none
 found-nothing none e = refl

@@ -9,6 +9,7 @@ use tables::faults::row_number;
 use tables::fields::position_at;
 use tables::find::capacity_in;
 use tables::find::row_of;
+use tables::find::sort_in;
 use tables::sizes::NODE;
 use tables::sizes::NODE_X;
 use tables::sizes::NODE_Y;
@@ -20,6 +21,7 @@ pub struct Node {
     pub x: i16,
     pub y: i16,
     pub capacity: u32,
+    pub sort: u32,
 }
 
 pub enum Found {
@@ -60,11 +62,13 @@ pub fn node_at(t: &[u8], k: usize) -> Found
     let x = position_at(t, NODE * k + NODE_X);
     let y = position_at(t, NODE * k + NODE_Y);
     let capacity = capacity_in(t, k);
+    let sort = sort_in(t, k);
     Found::One(Node {
         number,
         x,
         y,
         capacity,
+        sort,
     })
 }
 

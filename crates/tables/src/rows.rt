@@ -7,8 +7,10 @@ ghost use Rattle.tables.specs.Definitions.Fields.{positionAt};
 ghost use Rattle.tables.specs.Definitions.Tables.{positionGood, capacityGood, fieldsGood, fieldsZero};
 use super::fields::position_at;
 use super::fields::two_at;
+use super::sizes::BYTE_END;
 use super::sizes::FARTHEST;
 use super::sizes::MOST;
+use super::sizes::MOST_SORT;
 use super::sizes::NODE_CAPACITY;
 use super::sizes::NODE_X;
 use super::sizes::NODE_Y;
@@ -30,13 +32,17 @@ pub fn position_good_at(s: &[u8], at: usize) -> bool
     position_good(position_at(s, at))
 }
 
-pub fn capacity_good(k: u32) -> bool
-    ensures { λ r. ⌜ r ≡ capacityGood k ⌝ }
+// A capacity field: the capacity and the sort within their ranges.
+pub fn capacity_good(field: u32) -> bool
+    ensures { λ r. ⌜ r ≡ capacityGood field ⌝ }
 {
-    if k < 1 {
+    if field % BYTE_END < 1 {
         return false;
     }
-    k <= MOST
+    if MOST < field % BYTE_END {
+        return false;
+    }
+    field / BYTE_END <= MOST_SORT
 }
 
 // The fields of the row at byte `at`, but for the number, are within their ranges.

@@ -1,6 +1,6 @@
 // The widths, offsets, counts and ranges of document 01, 'Rows and buffers'. No other file of src/ has these numbers.
 
-// A node: number, horizontal, vertical, capacity. A table: so many rows of these.
+// A node: number, horizontal, vertical, capacity with the sort. A table: so many rows of these.
 pub const NODE_X: usize = 2;
 
 pub const NODE_Y: usize = 4;
@@ -17,6 +17,11 @@ pub const TABLE: usize = 4096;
 pub const FARTHEST: i16 = matching::sizes::EDGE;
 
 pub const MOST: u32 = 64;
+
+pub const MOST_SORT: u32 = 1;
+
+// The capacity field: below this the capacity, its multiples the sort.
+pub const BYTE_END: u32 = 256;
 
 // A link: A number, B number, squared distance, amount. The list: so many rows of these.
 pub const LINK_B: usize = 2;

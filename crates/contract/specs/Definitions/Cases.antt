@@ -18,14 +18,14 @@ use Rattle.contract.specs.Definitions.Requests.{Request, pair, step, edi
 use Rattle.contract.specs.Definitions.Calls.{call}
 use Rattle.contract.specs.Definitions.Undo.{moveOf}
 
--- A case: a drawing, the links in the lent list, a call; its number and value, and then the links in the list and the further buffers.
--- No case changes a table.
+-- A case: a drawing, the links in the lent list, a call; its number and value, and then the drawing, the links in the list and the further buffers.
 pub record Case : Type 0 where
   pub drawing : theory.Case
   pub list : List Link
   pub request : Request
   pub number : ℕ
   pub value : ℕ
+  pub redrawn : theory.Case
   pub after : List Link
   pub others : List (List ℕ)
 
@@ -33,16 +33,17 @@ pub record Case : Type 0 where
 unfoldable pub Right : Case → Type 0
 Right k = _≡_ {A = Outcome} (call (shape (k .request)) (lent (tableBytes (k .drawing .a)) (tableBytes (k .drawing .b)) (listBytes (k .list)))) (record {
   code = k .number * valueEnd + k .value;
-  held = lent (tableBytes (k .drawing .a)) (tableBytes (k .drawing .b)) (listBytes (k .after));
+  held = lent (tableBytes (k .redrawn .a)) (tableBytes (k .redrawn .b)) (listBytes (k .after));
   others = k .others;
 })
 
+-- A case that changes no table.
 abbrev pub case : theory.Case → List Link → Request → ℕ → ℕ → List Link → List (List ℕ) → Case
-case d l q n v k xs = record { drawing = d; list = l; request = q; number = n; value = v; after = k; others = xs }
+case d l q n v k xs = record { drawing = d; list = l; request = q; number = n; value = v; redrawn = d; after = k; others = xs }
 
--- E4: one node of A, with a position and a capacity.
-abbrev pub single : ℤ → ℕ → theory.Case
-single x k = record { a = record { number = 1; x = x; y = pos 0; capacity = k } ∷ []; b = []; links = [] }
+-- E4: one node of A, with a position, a capacity and a sort.
+abbrev pub single : ℤ → ℕ → ℕ → theory.Case
+single x k t = record { a = record { number = 1; x = x; y = pos 0; capacity = k; sort = t } ∷ []; b = []; links = [] }
 
 -- E3: one link in band 32.
 abbrev pub e3-counts : List ℕ
@@ -54,7 +55,7 @@ damagedLinks = record { a = 0; b = 0; distance = 0; amount = 0 } ∷ take 1 (dro
 
 -- E9: a move of A 2 to (3, 0).
 abbrev pub moving : List ℕ
-moving = moveOf 0 (record { number = 2; x = pos 3; y = pos 0; capacity = 0 })
+moving = moveOf 0 (record { number = 2; x = pos 3; y = pos 0; capacity = 0; sort = 0 })
 
 -- E8 is for every edit e of the stated length.
 abbrev pub cases : List ℕ → List Case
@@ -69,9 +70,9 @@ cases e =
     ∷ case e3 [] pair 0 1 (e3 .links) []
     ∷ case e3 (e3 .links) (bands (replicate countsSize 7)) 0 0 (e3 .links) (e3-counts ∷ [])
     -- E4
-    ∷ case (single (pos 16385) 1) [] pair 2 0 [] []
-    ∷ case (single (pos 0) 64) [] pair 0 0 [] []
-    ∷ case (single (pos 0) 65) [] pair 2 0 [] []
+    ∷ case (single (pos 16385) 1 0) [] pair 2 0 [] []
+    ∷ case (single (pos 0) 64 0) [] pair 0 0 [] []
+    ∷ case (single (pos 0) 65 0) [] pair 2 0 [] []
     -- E5
     ∷ case e5 [] pair 0 1 (e5 .links) []
     ∷ case e5x [] pair 0 1 (e5 .links) []

@@ -20,10 +20,10 @@ abbrev pub arrivalOf : ℕ → Node → List ℕ
 arrivalOf m v = editBytes 1 m v
 
 abbrev pub departureOf : ℕ → Node → List ℕ
-departureOf m v = editBytes 2 m (resized 0 (moved (pos 0) (pos 0) v))
+departureOf m v = editBytes 2 m (resized 0 0 (moved (pos 0) (pos 0) v))
 
 abbrev pub moveOf : ℕ → Node → List ℕ
-moveOf m v = editBytes 3 m (resized 0 v)
+moveOf m v = editBytes 3 m (resized 0 0 v)
 
 abbrev pub resizeOf : ℕ → Node → List ℕ
 resizeOf m v = editBytes 4 m (moved (pos 0) (pos 0) v)
@@ -38,7 +38,7 @@ pub record Named (e : List ℕ) (h : Buffers) (v : Node) : Type 0 where
   pub stands : ¬ (kindOf e ≡ 1) → List·Memᴰ v (nodesNamed (drawn h) (masterOf e))
 
 -- The edit back, for each kind of e: the departure of what arrived, the arrival of what departed, the move to where v stood,
--- the capacity that v had.
+-- the capacity and the sort that v had.
 unfoldable pub back : List ℕ → Node → List ℕ
 back e v = ofKind (kindOf e) (departureOf (masterOf e) v) (arrivalOf (masterOf e) v) (moveOf (masterOf e) v) (resizeOf (masterOf e) v)
 

@@ -10,11 +10,10 @@ use lib.Dec.{eqb, leb}
 use lib.ListN.{length}
 use borrow.Author.Tests.{eq-eqb, ne-eqb, eqb-true, lt-leb}
 use Rattle.matching.specs.Definitions.Lists.{sumOver}
-use Rattle.matching.specs.Definitions.Nodes.{Master, masterA, masterB, each, Node, Unique, has}
+use Rattle.matching.specs.Definitions.Nodes.{Master, masterA, masterB, each, other, Node, Unique, has}
 use Rattle.matching.specs.Definitions.Links.{Link, exchange}
 use Rattle.matching.specs.Definitions.Join as theory
 use Rattle.matching.specs.Definitions.Join.{join}
-use Rattle.matching.specs.Laws.Amounts.{other}
 use Rattle.matching.specs.Laws.Reordered.{reordered-sum, sum-of-map}
 use Rattle.matching.specs.Theorems.Exchange.{exchange-reordered, exchange-spare}
 use Rattle.tables.specs.Definitions.Sizes.{tableSize, listSize, countSize, countsSize, bandCount}

@@ -14,11 +14,11 @@ use Rattle.matching.specs.Definitions.Edits.{arrive, depart, amend, moved, resi
 use Rattle.matching.specs.Laws.Lists.{all-at}
 use Rattle.matching.specs.Laws.Undo.{absent-has, arrived, arrive-depart, departed-absent, departed-length, depart-arrive, amended-has, amend-back}
 use Rattle.matching.specs.Theorems.RowOrder.{join-reordered}
-use Rattle.tables.specs.Definitions.Sizes.{numberSize, capacitySize, farthest, most, nodeRows, editNumber}
+use Rattle.tables.specs.Definitions.Sizes.{numberSize, capacitySize, farthest, most, mostSort, nodeRows, editNumber}
 use Rattle.tables.specs.Definitions.Fields.{natAt, natBytes, positionAt}
-use Rattle.tables.specs.Definitions.Tables.{nodeFrom, nodeBytes, positionGood, capacityGood, GoodNode, GoodNodes}
+use Rattle.tables.specs.Definitions.Tables.{capacityIn, sortIn, fieldOf, nodeFrom, nodeBytes, positionGood, capacityGood, GoodNode, GoodNodes}
 use Rattle.tables.specs.Definitions.Edits.{kindOf, masterOf, numberOf, editNode, positionsZero, positionsGood, capacityField, editFields, editNodes}
-use Rattle.tables.specs.Laws.Fields.{nat-read, nat-high}
+use Rattle.tables.specs.Laws.Fields.{nat-read, nat-high, field-capacity, field-sort, field-high}
 use Rattle.tables.specs.Laws.Tables.{node-read}
 use Rattle.tables.specs.Laws.Edits.{Passes, Kind, arrival, departure, move, capacity, kind-cases, is-known}
 use Rattle.tables.specs.Laws.Edited.{fresh}
@@ -31,18 +31,23 @@ use Rattle.contract.specs.Laws.Drawing.{redrawn-good}
 record Made (k m : ℕ) (w : Node) : Type 0 where
   node : editNode (editBytes k m w) ≡ w
   number : numberOf (editBytes k m w) ≡ w .number
-  capacity : capacityField (editBytes k m w) ≡ w .capacity
+  capacity : capacityField (editBytes k m w) ≡ fieldOf w
   positions : positionsGood (editBytes k m w) ≡ true
   low : 1 ≤ w .number
 
-module _ (k m : ℕ) (w : Node) (g : GoodNode (resized 1 w)) (c : w .capacity ≤ most) where
+module _ (k m : ℕ) (w : Node) (g : GoodNode (resized 1 0 w)) (c : w .capacity ≤ most) (s : w .sort ≤ mostSort) where
+  made-field : capacityField (editBytes k m w) ≡ fieldOf w
+  unfolding capacityField nodeBytes natAt natBytes
+  made-field = nat-read capacitySize (fieldOf w) [] (field-high w c s)
+
   made-node : editNode (editBytes k m w) ≡ w
-  unfolding editNode nodeFrom nodeBytes natAt natBytes positionAt
+  unfolding editNode nodeFrom nodeBytes natAt natBytes positionAt capacityField
   made-node = λ i. record {
-    number = node-read (resized 1 w) [] g i .number;
-    x = node-read (resized 1 w) [] g i .x;
-    y = node-read (resized 1 w) [] g i .y;
-    capacity = nat-read capacitySize (w .capacity) [] (omega arith) i;
+    number = node-read (resized 1 0 w) [] g i .number;
+    x = node-read (resized 1 0 w) [] g i .x;
+    y = node-read (resized 1 0 w) [] g i .y;
+    capacity = (ap capacityIn made-field ∙ field-capacity w c) i;
+    sort = (ap sortIn made-field ∙ field-sort w c) i;
   }
 
   made : Made k m w
@@ -50,7 +55,7 @@ module _ (k m : ℕ) (w : Node) (g : GoodNode (resized 1 w)) (c : w .capacity �
   made = record {
     node = made-node;
     number = ap (λ (v : Node). v .number) made-node;
-    capacity = ap (λ (v : Node). v .capacity) made-node;
+    capacity = made-field;
     positions =
         ap (λ (v : Node). positionGood (v .x) && positionGood (v .y)) made-node
         ∙ rw (le-leb (natAbs (w .x)) farthest (g .across), le-leb (natAbs (w .y)) farthest (g .up));
@@ -72,9 +77,10 @@ made-passes t X h i j f n r = record {
   room = r;
 }
 
-capacity-good : (v : Node) → GoodNode v → capacityGood (v .capacity) ≡ true
+capacity-good : (v : Node) → GoodNode v → capacityGood (fieldOf v) ≡ true
 unfolding capacityGood
-capacity-good v g = rw (le-leb 1 (v .capacity) (g .least), le-leb (v .capacity) most (g .most))
+capacity-good v g =
+    rw (field-capacity v (g .most), field-sort v (g .most), le-leb 1 (v .capacity) (g .least), le-leb (v .capacity) most (g .most), le-leb (v .sort) mostSort (g .sort))
 
 -- What the edit e′ is for an edit e of the nodes A, which are then X.
 pub record Back (e e′ : List ℕ) (A X : List Node) : Type 0 where
@@ -85,7 +91,7 @@ pub record Back (e e′ : List ℕ) (A X : List Node) : Type 0 where
 
 -- An edit e that passes, of the number that v has.
 module _ (e : List ℕ) (A : List Node) (g : GoodNodes A) (p : Passes e A) (m : masterOf e ≤ 1) (v : Node) (n : v .number ≡ numberOf e) where
-  bare : GoodNode (resized 1 (moved (pos 0) (pos 0) v))
+  bare : GoodNode (resized 1 0 (moved (pos 0) (pos 0) v))
   unfolding numberOf
   bare = record {
     low = omega (arith, n, p .number);
@@ -94,6 +100,7 @@ module _ (e : List ℕ) (A : List Node) (g : GoodNodes A) (p : Passes e A) (m : 
     up = omega arith;
     least = omega arith;
     most = omega arith;
+    sort = omega arith;
   }
 
   -- An arrival.
@@ -101,8 +108,8 @@ module _ (e : List ℕ) (A : List Node) (g : GoodNodes A) (p : Passes e A) (m : 
   unfolding editNodes
   back-arrival k = record { master = refl; passes = passed; reordered = rw led same; same = λ h. led }
     where
-      t : Made 2 (masterOf e) (resized 0 (moved (pos 0) (pos 0) v))
-      t = made 2 (masterOf e) (resized 0 (moved (pos 0) (pos 0) v)) bare (omega arith)
+      t : Made 2 (masterOf e) (resized 0 0 (moved (pos 0) (pos 0) v))
+      t = made 2 (masterOf e) (resized 0 0 (moved (pos 0) (pos 0) v)) bare (omega arith) (omega arith)
 
       is : v .number ≡ editNode e .number
       is = unfold numberOf editNode nodeFrom in n
@@ -121,8 +128,8 @@ module _ (e : List ℕ) (A : List Node) (g : GoodNodes A) (p : Passes e A) (m : 
     good : GoodNode v
     good = all-at GoodNode (g .good) i
 
-    fits : GoodNode (resized 1 v)
-    fits = record { low = good .low; high = good .high; across = good .across; up = good .up; least = omega arith; most = omega arith }
+    fits : GoodNode (resized 1 0 v)
+    fits = record { low = good .low; high = good .high; across = good .across; up = good .up; least = omega arith; most = omega arith; sort = omega arith }
 
     -- A departure.
     back-departure : kindOf e ≡ 2 → Back e (arrivalOf (masterOf e) v) A (depart (numberOf e) A)
@@ -130,7 +137,7 @@ module _ (e : List ℕ) (A : List Node) (g : GoodNodes A) (p : Passes e A) (m : 
     back-departure k = rw (← n) (record { master = refl; passes = passed; reordered = rw (t .node) (depart-arrive v (g .unique) i); same = λ h. absurd (h k) })
       where
         t : Made 1 (masterOf e) v
-        t = made 1 (masterOf e) v fits (good .most)
+        t = made 1 (masterOf e) v fits (good .most) (good .sort)
 
         passed : Passes (arrivalOf (masterOf e) v) (depart (v .number) A)
         passed = made-passes t (depart (v .number) A) (omega arith) (omega arith) m (unfold editFields in rw (t .positions, t .capacity, capacity-good v good))
@@ -161,27 +168,27 @@ module _ (e : List ℕ) (A : List Node) (g : GoodNodes A) (p : Passes e A) (m : 
     back-move : kindOf e ≡ 3 → Back e (moveOf (masterOf e) v) A (amend (moved (editNode e .x) (editNode e .y)) (numberOf e) A)
     unfolding editNodes
     back-move k = back-amended f (moved (v .x) (v .y)) (λ u. refl) refl (omega arith) t (omega arith) (omega arith) refl fields
-        (ap (λ (u : Node). amend (moved (u .x) (u .y)) (numberOf (editBytes 3 (masterOf e) (resized 0 v))) (amend f (v .number) A)) (t .node))
+        (ap (λ (u : Node). amend (moved (u .x) (u .y)) (numberOf (editBytes 3 (masterOf e) (resized 0 0 v))) (amend f (v .number) A)) (t .node))
       where
         f : Node → Node
         f = moved (editNode e .x) (editNode e .y)
 
-        t : Made 3 (masterOf e) (resized 0 v)
-        t = made 3 (masterOf e) (resized 0 v) fits (omega arith)
+        t : Made 3 (masterOf e) (resized 0 0 v)
+        t = made 3 (masterOf e) (resized 0 0 v) fits (omega arith) (omega arith)
 
-        fields : editFields (editBytes 3 (masterOf e) (resized 0 v)) ≡ true
+        fields : editFields (editBytes 3 (masterOf e) (resized 0 0 v)) ≡ true
         fields = unfold editFields in rw (t .positions, t .capacity)
 
-    back-capacity : kindOf e ≡ 4 → Back e (resizeOf (masterOf e) v) A (amend (resized (editNode e .capacity)) (numberOf e) A)
+    back-capacity : kindOf e ≡ 4 → Back e (resizeOf (masterOf e) v) A (amend (resized (editNode e .capacity) (editNode e .sort)) (numberOf e) A)
     unfolding editNodes
-    back-capacity k = back-amended f (resized (v .capacity)) (λ u. refl) refl (omega arith) t (omega arith) (omega arith) refl fields
-        (ap (λ (u : Node). amend (resized (u .capacity)) (numberOf (editBytes 4 (masterOf e) (moved (pos 0) (pos 0) v))) (amend f (v .number) A)) (t .node))
+    back-capacity k = back-amended f (resized (v .capacity) (v .sort)) (λ u. refl) refl (omega arith) t (omega arith) (omega arith) refl fields
+        (ap (λ (u : Node). amend (resized (u .capacity) (u .sort)) (numberOf (editBytes 4 (masterOf e) (moved (pos 0) (pos 0) v))) (amend f (v .number) A)) (t .node))
       where
         f : Node → Node
-        f = resized (editNode e .capacity)
+        f = resized (editNode e .capacity) (editNode e .sort)
 
         t : Made 4 (masterOf e) (moved (pos 0) (pos 0) v)
-        t = made 4 (masterOf e) (moved (pos 0) (pos 0) v) bare (good .most)
+        t = made 4 (masterOf e) (moved (pos 0) (pos 0) v) bare (good .most) (good .sort)
 
         fields : editFields (editBytes 4 (masterOf e) (moved (pos 0) (pos 0) v)) ≡ true
         fields = unfold editFields positionsZero nodeBytes natAt natBytes in rw (t .capacity, capacity-good v good)

@@ -43,18 +43,22 @@ position-at-requires-2 c κs = search needs
 capacity-in-requires : tie.Need-capacity-in-requires
 capacity-in-requires c κs = search needs
 
+sort-in-requires : tie.Need-sort-in-requires
+sort-in-requires c κs = search needs
+
 returns-4 : tie.Need-returns-4
 unfolding nodeFrom rowNumber
 returns-4 c =
-    let across = c .before .before .position-at in
-    let up = c .before .position-at2 in
+    let across = c .before .before .before .position-at in
+    let up = c .before .before .position-at2 in
     (λ i. One (record {
-      number = c .before .before .before .before .row-number .ensures i;
+      number = c .before .before .before .before .before .row-number .ensures i;
       x = (toZ-ofZ {w = w16} (record { sfits = across .ok }) ∙ across .ensures) i;
       y = (toZ-ofZ {w = w16} (record { sfits = up .ok }) ∙ up .ensures) i;
-      capacity = c .capacity-in .ensures i;
+      capacity = c .before .capacity-in .ensures i;
+      sort = c .sort-in .ensures i;
     }))
-    ∙ ap foundOf (node-there _ _ (c .before .before .before .before .before .before .if1 .left) (c .before .before .before .before .before .if2 .left) (λ e. c .before .before .before .if3 .left (c .before .before .before .before .row-number .ensures ∙ e)))
+    ∙ ap foundOf (node-there _ _ (c .before .before .before .before .before .before .before .if1 .left) (c .before .before .before .before .before .before .if2 .left) (λ e. c .before .before .before .before .if3 .left (c .before .before .before .before .before .row-number .ensures ∙ e)))
 
 pub node-at-spec : {M : Type 1} → statement M
 node-at-spec =
@@ -71,4 +75,5 @@ node-at-spec =
     add-position-at-2
     position-at-requires-2
     capacity-in-requires
+    sort-in-requires
     returns-4)

@@ -27,7 +27,7 @@ unfoldable pub editNode : List ℕ → Node
 unfolding nodeFrom
 editNode e = nodeFrom e editNumber
 
--- A thing for each kind: 1 is an arrival, 2 a departure, 3 a move, 4 a new capacity.
+-- A thing for each kind: 1 is an arrival, 2 a departure, 3 a move, 4 a new capacity and sort.
 abbrev pub ofKind : {X : Type 0} → ℕ → X → X → X → X → X
 ofKind k arrival departure move capacity = cond (eqb k 1) arrival (cond (eqb k 2) departure (cond (eqb k 3) move capacity))
 
@@ -40,6 +40,7 @@ unfoldable pub positionsGood : List ℕ → Bool
 unfolding positionGood positionAt
 positionsGood e = positionGood (positionAt e editX) && positionGood (positionAt e editY)
 
+-- The capacity field whole, with the sort.
 unfoldable pub capacityField : List ℕ → ℕ
 unfolding natAt
 capacityField e = natAt capacitySize e editCapacity
@@ -61,7 +62,7 @@ editNodes e A =
     (arrive (editNode e) A)
     (depart (numberOf e) A)
     (amend (moved (editNode e .x) (editNode e .y)) (numberOf e) A)
-    (amend (resized (editNode e .capacity)) (numberOf e) A)
+    (amend (resized (editNode e .capacity) (editNode e .sort)) (numberOf e) A)
 
 -- The table without row k: the later rows close up, and the last becomes zero.
 unfoldable pub closed : List ℕ → ℕ → List ℕ

@@ -22,9 +22,13 @@ amountSize = 2
 abbrev pub countSize : ℕ
 countSize = 2
 
--- Their ranges: a number is not 0, a position at most so far from 0, a capacity at least 1.
+-- A byte is below this.
+abbrev pub byteEnd : ℕ
+byteEnd = 256
+
+-- Their ranges: a number is not 0, a position at most so far from 0, a capacity at least 1. A sort is 0, on-curve, or 1, off-curve.
 abbrev pub numberEnd : ℕ
-numberEnd = 256 ^ numberSize
+numberEnd = byteEnd ^ numberSize
 
 abbrev pub farthest : ℕ
 farthest = edge
@@ -32,7 +36,10 @@ farthest = edge
 abbrev pub most : ℕ
 most = 64
 
--- A node: number, horizontal, vertical, capacity. A table: so many rows of these.
+abbrev pub mostSort : ℕ
+mostSort = 1
+
+-- A node: number, horizontal, vertical, capacity with the sort. A table: so many rows of these.
 abbrev pub nodeX : ℕ
 nodeX = numberSize
 

@@ -1,5 +1,5 @@
 -- A master's table: the nodes first, in any order, and zero rows after.
-use Prim.Native.Nat.{ℕ, zero, suc, _+_, _*_, _<_, _≤_}
+use Prim.Native.Nat.{ℕ, zero, suc, _+_, _*_, _/_, _%_, _<_, _≤_}
 use mathlib.Core.Path.{_≡_}
 use mathlib.Core.Bool.{Bool, false, cond, not, _&&_, _||_}
 use mathlib.Core.Option.{Option, none}
@@ -9,9 +9,20 @@ use lib.IntN.{ℤ, natAbs}
 use lib.ListN.{length}
 use Rattle.matching.specs.Definitions.Lists.{All}
 use Rattle.matching.specs.Definitions.Nodes.{Node, Unique}
-use Rattle.tables.specs.Definitions.Sizes.{numberSize, positionSize, capacitySize, numberEnd, farthest, most, nodeX, nodeY, nodeCapacity, nodeSize, nodeRows, tableSize}
+use Rattle.tables.specs.Definitions.Sizes.{numberSize, positionSize, capacitySize, byteEnd, numberEnd, farthest, most, mostSort, nodeX, nodeY, nodeCapacity, nodeSize, nodeRows, tableSize}
 use Rattle.tables.specs.Definitions.Fields.{Bytes, natAt, natBytes, unsigned, positionAt}
 use Rattle.tables.specs.Definitions.Rows.{flat, padded, firstFrom}
+
+-- The capacity field: its low byte is the capacity, its high byte the sort;
+abbrev pub capacityIn : ℕ → ℕ
+capacityIn f = f % byteEnd
+
+abbrev pub sortIn : ℕ → ℕ
+sortIn f = f / byteEnd
+
+-- and the field of a node.
+abbrev pub fieldOf : Node → ℕ
+fieldOf v = v .capacity + byteEnd * v .sort
 
 -- The node whose row begins at byte i.
 unfoldable pub nodeFrom : List ℕ → ℕ → Node
@@ -20,7 +31,8 @@ nodeFrom t i = record {
   number = natAt numberSize t i;
   x = positionAt t (i + nodeX);
   y = positionAt t (i + nodeY);
-  capacity = natAt capacitySize t (i + nodeCapacity);
+  capacity = capacityIn (natAt capacitySize t (i + nodeCapacity));
+  sort = sortIn (natAt capacitySize t (i + nodeCapacity));
 }
 
 -- The number in row k.
@@ -44,18 +56,18 @@ unfoldable pub nodeBytes : Node → List ℕ
 unfolding natBytes unsigned
 nodeBytes v =
     natBytes numberSize (v .number)
-    ++ (natBytes positionSize (unsigned (v .x)) ++ (natBytes positionSize (unsigned (v .y)) ++ natBytes capacitySize (v .capacity)))
+    ++ (natBytes positionSize (unsigned (v .x)) ++ (natBytes positionSize (unsigned (v .y)) ++ natBytes capacitySize (fieldOf v)))
 
 unfoldable pub tableBytes : List Node → List ℕ
 unfolding padded flat nodeBytes
 tableBytes A = padded tableSize (flat nodeBytes A)
 
--- The ranges of a position and of a capacity.
+-- The ranges of a position and of a capacity field.
 unfoldable pub positionGood : ℤ → Bool
 positionGood z = leb (natAbs z) farthest
 
 unfoldable pub capacityGood : ℕ → Bool
-capacityGood k = leb 1 k && leb k most
+capacityGood f = leb 1 (capacityIn f) && (leb (capacityIn f) most && leb (sortIn f) mostSort)
 
 -- The fields of the row that begins at byte i, but for the number: within their ranges; all zero.
 unfoldable pub fieldsGood : List ℕ → ℕ → Bool
@@ -100,6 +112,7 @@ pub record GoodNode (v : Node) : Type 0 where
   pub up : natAbs (v .y) ≤ farthest
   pub least : 1 ≤ v .capacity
   pub most : v .capacity ≤ most
+  pub sort : v .sort ≤ mostSort
 
 pub record GoodNodes (A : List Node) : Type 0 where
   pub good : All GoodNode A

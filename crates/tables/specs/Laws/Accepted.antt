@@ -13,10 +13,10 @@ use lib.ListN.{length, take, drop, take-append-drop, length-drop, drop-of-length
 use borrow.Author.Tests.{eq-eqb, ne-eqb, eqb-false, leb-true, not-false}
 use Rattle.matching.specs.Definitions.Lists.{All}
 use Rattle.matching.specs.Definitions.Nodes.{Node, Unique}
-use Rattle.tables.specs.Definitions.Sizes.{numberSize, positionSize, capacitySize, farthest, most, nodeX, nodeY, nodeCapacity, nodeSize, nodeRows, tableSize}
+use Rattle.tables.specs.Definitions.Sizes.{numberSize, positionSize, capacitySize, farthest, most, mostSort, nodeX, nodeY, nodeCapacity, nodeSize, nodeRows, tableSize}
 use Rattle.tables.specs.Definitions.Fields.{natAt, positionAt}
 use Rattle.tables.specs.Definitions.Rows.{flat, padded}
-use Rattle.tables.specs.Definitions.Tables.{nodeFrom, rowNumber, nodesFrom, nodesIn, nodeBytes, tableBytes, positionGood, capacityGood, fieldsGood, fieldsZero, standsBefore, faulty, firstFault, Accepted, GoodNode, GoodNodes}
+use Rattle.tables.specs.Definitions.Tables.{capacityIn, sortIn, nodeFrom, rowNumber, nodesFrom, nodesIn, nodeBytes, tableBytes, positionGood, capacityGood, fieldsGood, fieldsZero, standsBefore, faulty, firstFault, Accepted, GoodNode, GoodNodes}
 use Rattle.tables.specs.Laws.Fields.{bytes-drop, nat-high, nat-drop}
 use Rattle.tables.specs.Laws.Rows.{or-split, and-split, none-from, zeros}
 use Rattle.tables.specs.Laws.RowsRead.{rows-written}
@@ -50,19 +50,23 @@ not-before t n (suc j) i e h g = go (ℕ-discrete i j) (or-split (eqb (rowNumber
     go (yes d) s r = eqb-false (rowNumber t j) n (s .0) (rw (← d) g)
     go (no d) s r = r (s .1) (omega arith) g
 
-pub capacity-range : (k : ℕ) → capacityGood k ≡ true → (1 ≤ k) × (k ≤ most)
+pub capacity-range : (f : ℕ) → capacityGood f ≡ true → (1 ≤ capacityIn f) × (capacityIn f ≤ most) × (sortIn f ≤ mostSort)
 unfolding capacityGood
-capacity-range k h = let s = and-split (leb 1 k) (leb k most) h in (leb-true 1 k (s .0), leb-true k most (s .1))
+capacity-range f h =
+    let s = and-split (leb 1 (capacityIn f)) (leb (capacityIn f) most && leb (sortIn f) mostSort) h in
+    let u = and-split (leb (capacityIn f) most) (leb (sortIn f) mostSort) (s .1) in
+    (leb-true 1 (capacityIn f) (s .0), leb-true (capacityIn f) most (u .0), leb-true (sortIn f) mostSort (u .1))
 
 -- The ranges of a row's fields.
-fields-range : (t : List ℕ) (i : ℕ) → fieldsGood t i ≡ true
-    → (natAbs (positionAt t (i + nodeX)) ≤ farthest) × (natAbs (positionAt t (i + nodeY)) ≤ farthest) × (1 ≤ natAt capacitySize t (i + nodeCapacity)) × (natAt capacitySize t (i + nodeCapacity) ≤ most)
+pub fields-range : (t : List ℕ) (i : ℕ) → fieldsGood t i ≡ true
+    → (natAbs (positionAt t (i + nodeX)) ≤ farthest) × (natAbs (positionAt t (i + nodeY)) ≤ farthest) × (1 ≤ capacityIn (natAt capacitySize t (i + nodeCapacity))) × (capacityIn (natAt capacitySize t (i + nodeCapacity)) ≤ most)
+    × (sortIn (natAt capacitySize t (i + nodeCapacity)) ≤ mostSort)
 unfolding fieldsGood positionGood
 fields-range t i h =
     let a = and-split (leb (natAbs (positionAt t (i + nodeX))) farthest) (leb (natAbs (positionAt t (i + nodeY))) farthest && capacityGood (natAt capacitySize t (i + nodeCapacity))) h in
     let b = and-split (leb (natAbs (positionAt t (i + nodeY))) farthest) (capacityGood (natAt capacitySize t (i + nodeCapacity))) (a .1) in
     let c = capacity-range (natAt capacitySize t (i + nodeCapacity)) (b .1) in
-    (leb-true (natAbs (positionAt t (i + nodeX))) farthest (a .0), leb-true (natAbs (positionAt t (i + nodeY))) farthest (b .0), c .0, c .1)
+    (leb-true (natAbs (positionAt t (i + nodeX))) farthest (a .0), leb-true (natAbs (positionAt t (i + nodeY))) farthest (b .0), c .0, c .1, c .2)
 
 nodes-room : (t : List ℕ) (n k : ℕ) → length (nodesFrom t k n) ≤ n
 unfolding nodesFrom
@@ -170,7 +174,7 @@ module _ (t : List ℕ) (h : Accepted t) where
   row-good k l z =
       let f = fields-range t (nodeSize * k) (with-number t k (clean k l) z .0) in
       let lo : 1 ≤ rowNumber t k = omega arith in
-      record { low = lo; high = nat-high numberSize t (h .bytes) (nodeSize * k); across = f .0; up = f .1; least = f .2; most = f .3 }
+      record { low = lo; high = nat-high numberSize t (h .bytes) (nodeSize * k); across = f .0; up = f .1; least = f .2; most = f .3; sort = f .4 }
 
   -- Its nodes are good.
   pub nodes-good : GoodNodes (nodesIn t)

@@ -12,7 +12,7 @@ use Rattle.matching.specs.Definitions.Lists.{All}
 use Rattle.matching.specs.Definitions.Nodes.{Node, Absent, Unique, has}
 use Rattle.matching.specs.Definitions.Edits.{arrive, depart, amend, moved, resized}
 use Rattle.matching.specs.Laws.Lists.{all-append}
-use Rattle.tables.specs.Definitions.Sizes.{numberSize, farthest, most, nodeRows, editNumber}
+use Rattle.tables.specs.Definitions.Sizes.{numberSize, farthest, most, mostSort, nodeRows, editNumber}
 use Rattle.tables.specs.Definitions.Tables.{nodeFrom, positionGood, capacityGood, GoodNode, GoodNodes}
 use Rattle.tables.specs.Definitions.Edits.{kindOf, numberOf, editNode, positionsZero, positionsGood, capacityField, editFields, editNodes}
 use Rattle.tables.specs.Laws.Fields.{nat-high}
@@ -102,7 +102,7 @@ positions-range e t h =
     let r = and-split (positionGood (editNode e .x)) (positionGood (editNode e .y)) (s .0) in
     (leb-true (natAbs (editNode e .x)) farthest (r .0), leb-true (natAbs (editNode e .y)) farthest (r .1))
 
-size-range : (e : List ℕ) (t : Bool) → (t && capacityGood (capacityField e)) ≡ true → (1 ≤ editNode e .capacity) × (editNode e .capacity ≤ most)
+size-range : (e : List ℕ) (t : Bool) → (t && capacityGood (capacityField e)) ≡ true → (1 ≤ editNode e .capacity) × (editNode e .capacity ≤ most) × (editNode e .sort ≤ mostSort)
 unfolding capacityField editNode nodeFrom
 size-range e t h = capacity-range (capacityField e) (and-split t (capacityGood (capacityField e)) h .1)
 
@@ -118,7 +118,7 @@ module _ (e : List ℕ) (A : List Node) (m : GoodNodes A) (p : Passes e A) where
   arrival-good k h =
       let f = positions-range e (capacityGood (capacityField e)) h in
       let c = size-range e (positionsGood e) h in
-      record { low = p .number; high = nat-high numberSize e (p .bytes) editNumber; across = f .0; up = f .1; least = c .0; most = c .1 }
+      record { low = p .number; high = nat-high numberSize e (p .bytes) editNumber; across = f .0; up = f .1; least = c .0; most = c .1; sort = c .2 }
 
   kinds-good : Kind e → GoodNodes (editNodes e A)
   unfolding editNodes editFields
@@ -134,10 +134,10 @@ module _ (e : List ℕ) (A : List Node) (m : GoodNodes A) (p : Passes e A) where
   })
   kinds-good (move k) = rw k (amend-good (moved (editNode e .x) (editNode e .y)) (λ v. refl) (numberOf e) A m
       (λ v g. let f = positions-range e (eqb (capacityField e) 0) (rw k at (p .fields)) in
-      record { low = g .low; high = g .high; across = f .0; up = f .1; least = g .least; most = g .most }))
-  kinds-good (capacity k) = rw k (amend-good (resized (editNode e .capacity)) (λ v. refl) (numberOf e) A m
+      record { low = g .low; high = g .high; across = f .0; up = f .1; least = g .least; most = g .most; sort = g .sort }))
+  kinds-good (capacity k) = rw k (amend-good (resized (editNode e .capacity) (editNode e .sort)) (λ v. refl) (numberOf e) A m
       (λ v g. let f = size-range e (positionsZero e) (rw k at (p .fields)) in
-      record { low = g .low; high = g .high; across = g .across; up = g .up; least = f .0; most = f .1 }))
+      record { low = g .low; high = g .high; across = g .across; up = g .up; least = f .0; most = f .1; sort = f .2 }))
 
   pub edit-good : GoodNodes (editNodes e A)
   edit-good = kinds-good (kind-cases e (p .least) (p .most))

@@ -84,9 +84,9 @@ module _ (A₁ A₂ : List Node) where
   unfolding put from-row nodeBytes natBytes
   reposition v w = rw (table-row v) (put-behind A₁ (from-row v) (take (positionSize + positionSize) (drop nodeX (nodeBytes w))) nodeX ∙ sym (table-row (moved (w .x) (w .y) v)))
 
-  resize : (v w : Node) → put (tableBytes (A₁ ++ v ∷ A₂)) (nodeSize * length A₁ + nodeCapacity) (drop nodeCapacity (nodeBytes w)) ≡ tableBytes (A₁ ++ resized (w .capacity) v ∷ A₂)
+  resize : (v w : Node) → put (tableBytes (A₁ ++ v ∷ A₂)) (nodeSize * length A₁ + nodeCapacity) (drop nodeCapacity (nodeBytes w)) ≡ tableBytes (A₁ ++ resized (w .capacity) (w .sort) v ∷ A₂)
   unfolding put from-row nodeBytes natBytes
-  resize v w = rw (table-row v) (put-behind A₁ (from-row v) (drop nodeCapacity (nodeBytes w)) nodeCapacity ∙ sym (table-row (resized (w .capacity) v)))
+  resize v w = rw (table-row v) (put-behind A₁ (from-row v) (drop nodeCapacity (nodeBytes w)) nodeCapacity ∙ sym (table-row (resized (w .capacity) (w .sort) v)))
 
 -- What an edit is that is not refused, for the nodes A of its master.
 pub record Passes (e : List ℕ) (A : List Node) : Type 0 where
@@ -138,8 +138,8 @@ module _ (e : List ℕ) (A : List Node) (m : GoodNodes A) (p : Passes e A) where
   moving : Split (numberOf e) A → put (tableBytes A) (nodeSize * place (numberOf e) A + nodeX) (take (positionSize + positionSize) (drop editX e)) ≡ tableBytes (amend (moved (editNode e .x) (editNode e .y)) (numberOf e) A)
   moving s = rw (later nodeX, s .is-place, s .amended (moved (editNode e .x) (editNode e .y)), s .is-list) (reposition (s .A₁) (s .A₂) (s .v) (editNode e))
 
-  sizing : Split (numberOf e) A → put (tableBytes A) (nodeSize * place (numberOf e) A + nodeCapacity) (drop editCapacity e) ≡ tableBytes (amend (resized (editNode e .capacity)) (numberOf e) A)
-  sizing s = rw (later nodeCapacity, s .is-place, s .amended (resized (editNode e .capacity)), s .is-list) (resize (s .A₁) (s .A₂) (s .v) (editNode e))
+  sizing : Split (numberOf e) A → put (tableBytes A) (nodeSize * place (numberOf e) A + nodeCapacity) (drop editCapacity e) ≡ tableBytes (amend (resized (editNode e .capacity) (editNode e .sort)) (numberOf e) A)
+  sizing s = rw (later nodeCapacity, s .is-place, s .amended (resized (editNode e .capacity) (editNode e .sort)), s .is-list) (resize (s .A₁) (s .A₂) (s .v) (editNode e))
 
   edit-kinds : Kind e → editTable e (tableBytes A) ≡ tableBytes (editNodes e A)
   unfolding editTable editNodes

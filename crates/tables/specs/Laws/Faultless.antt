@@ -5,6 +5,7 @@ use mathlib.Core.Bool.{true, false, _&&_}
 use mathlib.Core.List.{List}
 use native.Mathlib.Decide.{decLt}
 use native.Mathlib.Omega.{arith}
+use lib.Dec.{leb}
 use lib.IntN.{pos, natAbs}
 use lib.ListN.{length, getD, drop}
 use lib.Seq.{drop-append-add}
@@ -12,10 +13,10 @@ use borrow.Author.Tests.{ne-eqb, le-leb}
 use Rattle.matching.specs.Definitions.Nodes.{Node}
 use Rattle.matching.specs.Laws.Lists.{all-get}
 use Rattle.matching.specs.Laws.Columns.{same-place}
-use Rattle.tables.specs.Definitions.Sizes.{numberSize, positionSize, capacitySize, farthest, most, nodeX, nodeY, nodeCapacity, nodeSize, nodeRows, tableSize}
+use Rattle.tables.specs.Definitions.Sizes.{numberSize, positionSize, capacitySize, farthest, most, mostSort, nodeX, nodeY, nodeCapacity, nodeSize, nodeRows, tableSize}
 use Rattle.tables.specs.Definitions.Fields.{Bytes, signed, unsigned, positionAt}
 use Rattle.tables.specs.Definitions.Rows.{flat, padded}
-use Rattle.tables.specs.Definitions.Tables.{nodeFrom, rowNumber, nodeBytes, tableBytes, positionGood, capacityGood, fieldsGood, fieldsZero, standsBefore, faulty, firstFault, Accepted, GoodNode, GoodNodes}
+use Rattle.tables.specs.Definitions.Tables.{capacityIn, sortIn, fieldOf, nodeFrom, rowNumber, nodeBytes, tableBytes, positionGood, capacityGood, fieldsGood, fieldsZero, standsBefore, faulty, firstFault, Accepted, GoodNode, GoodNodes}
 use Rattle.tables.specs.Laws.Fields.{nat-zeros, four-bytes}
 use Rattle.tables.specs.Laws.Rows.{from-none, zeros, drop-zeros}
 use Rattle.tables.specs.Laws.RowsRead.{rows-bytes}
@@ -23,7 +24,7 @@ use Rattle.tables.specs.Laws.Tables.{number-drop, node-at, nodes-length,
 use Rattle.tables.specs.Laws.Accepted.{zero-drop}
 
 abbrev blank : Node
-blank = record { number = 0; x = pos 0; y = pos 0; capacity = 0 }
+blank = record { number = 0; x = pos 0; y = pos 0; capacity = 0; sort = 0 }
 
 zero-node : (n i : ℕ) → nodeFrom (zeros n) i ≡ blank
 unfolding nodeFrom positionAt signed
@@ -31,7 +32,8 @@ zero-node n i = λ t. record {
   number = nat-zeros numberSize n i t;
   x = signed (nat-zeros positionSize n (i + nodeX) t);
   y = signed (nat-zeros positionSize n (i + nodeY) t);
-  capacity = nat-zeros capacitySize n (i + nodeCapacity) t;
+  capacity = capacityIn (nat-zeros capacitySize n (i + nodeCapacity) t);
+  sort = sortIn (nat-zeros capacitySize n (i + nodeCapacity) t);
 }
 
 pub not-stands : (t : List ℕ) (n j : ℕ) → ((i : ℕ) → i < j → rowNumber t i ≡ n → ⊥) → standsBefore t j n ≡ false
@@ -41,7 +43,7 @@ not-stands t n (suc j) f = rw (ne-eqb (rowNumber t j) n (f j (omega arith))) (no
 
 node-bytes : (v : Node) → Bytes (nodeBytes v)
 unfolding nodeBytes
-node-bytes v = four-bytes numberSize positionSize positionSize capacitySize (v .number) (unsigned (v .x)) (unsigned (v .y)) (v .capacity)
+node-bytes v = four-bytes numberSize positionSize positionSize capacitySize (v .number) (unsigned (v .x)) (unsigned (v .y)) (fieldOf v)
 
 zeros-number : (n : ℕ) → rowNumber (zeros n) 0 ≡ 0
 unfolding rowNumber
@@ -70,12 +72,13 @@ module _ (A : List Node) (m : GoodNodes A) where
   unfolding fieldsGood nodeFrom positionGood capacityGood
   fields-at k h =
       let g = good-at k h in
-      ap (λ (v : Node). positionGood (v .x) && (positionGood (v .y) && capacityGood (v .capacity))) (at k)
+      ap (λ (v : Node). positionGood (v .x) && (positionGood (v .y) && (leb 1 (v .capacity) && (leb (v .capacity) most && leb (v .sort) mostSort)))) (at k)
       ∙ rw (
         le-leb (natAbs (getD A k blank .x)) farthest (g .across),
         le-leb (natAbs (getD A k blank .y)) farthest (g .up),
         le-leb 1 (getD A k blank .capacity) (g .least),
         le-leb (getD A k blank .capacity) most (g .most),
+        le-leb (getD A k blank .sort) mostSort (g .sort),
       )
 
   -- a row with a node

@@ -10,9 +10,11 @@ use lib.IntN.{ℤ, pos, negsuc, natAbs}
 use lib.ListN.{length, getD, take, drop, replicate, length-drop}
 use lib.Seq.{take-add, drop-drop}
 use borrow.Author.Tests.{lt-ltb, le-ltb}
+use Rattle.matching.specs.Definitions.Nodes.{Node}
 use Rattle.matching.specs.Laws.Lists.{all-append}
-use Rattle.tables.specs.Definitions.Sizes.{farthest}
+use Rattle.tables.specs.Definitions.Sizes.{capacitySize, byteEnd, farthest, most, mostSort}
 use Rattle.tables.specs.Definitions.Fields.{Bytes, natAt, natBytes, signed, unsigned}
+use Rattle.tables.specs.Definitions.Tables.{capacityIn, sortIn, fieldOf}
 
 -- Bytes.
 byte-at : (xs : List ℕ) → Bytes xs → (i : ℕ) → getD xs i 0 < 256
@@ -117,6 +119,21 @@ module _ (a b c d : ℕ) where
 
       joined : (i j u v : ℕ) → i + u ≡ j → take u (drop i r) ++ take v (drop j r) ≡ take (u + v) (drop i r)
       joined i j u v e = sym (take-add u v (drop i r) ∙ ap (λ (q : List ℕ). take u (drop i r) ++ take v q) (drop-drop u i r ∙ ap (λ (m : ℕ). drop m r) e))
+
+-- The capacity field of a node gives its capacity and its sort again,
+pub field-capacity : (v : Node) → v .capacity ≤ most → capacityIn (fieldOf v) ≡ v .capacity
+field-capacity v h = omega arith
+
+pub field-sort : (v : Node) → v .capacity ≤ most → sortIn (fieldOf v) ≡ v .sort
+field-sort v h = omega arith
+
+-- has two bytes,
+pub field-high : (v : Node) → v .capacity ≤ most → v .sort ≤ mostSort → fieldOf v < 256 ^ capacitySize
+field-high v h g = omega arith
+
+-- and a field is that of what it gives.
+pub field-whole : (f : ℕ) → capacityIn f + byteEnd * sortIn f ≡ f
+field-whole f = omega arith
 
 -- Two bytes, and four as twice two, as code reads and writes them.
 pub nat-two : (xs : List ℕ) (i : ℕ) → natAt 2 xs i ≡ getD xs i 0 + 256 * getD xs (i + 1) 0

@@ -8,8 +8,7 @@ use lib.Dec.{ltb}
 use lib.ListN.{length}
 use borrow.Author.Tests.{eq-eqb, ne-eqb, lt-ltb}
 use Rattle.matching.specs.Definitions.Nodes.{Node, has, place, capacityOf}
-use Rattle.tables.specs.Definitions.Sizes.{capacitySize, nodeCapacity, nodeSize, nodeRows}
-use Rattle.tables.specs.Definitions.Fields.{natAt}
+use Rattle.tables.specs.Definitions.Sizes.{nodeSize, nodeRows}
 use Rattle.tables.specs.Definitions.Tables.{nodeFrom, rowNumber, nodesFrom, nodesIn}
 use Rattle.tables.specs.Laws.Nodes.{nodes-end, nodes-next, nodes-full}
 
@@ -18,7 +17,7 @@ pub record RowOf (t : List ℕ) (n r : ℕ) : Type 0 where
   pub within : r ≤ nodeRows
   pub known : has n (nodesIn t) ≡ ltb r nodeRows
   pub is : r < nodeRows → r ≡ place n (nodesIn t)
-  pub capacity : r < nodeRows → natAt capacitySize t (nodeSize * r + nodeCapacity) ≡ capacityOf (nodesIn t) n
+  pub capacity : r < nodeRows → nodeFrom t (nodeSize * r) .capacity ≡ capacityOf (nodesIn t) n
 
 -- The nodes from row k on.
 abbrev later : List ℕ → ℕ → List Node

@@ -1,4 +1,4 @@
--- The ranges of positions and capacities, as code tests them.
+-- The ranges of positions and of capacity fields, as code tests them.
 use Prim.Native.Nat.{ℕ, suc, _-_, _<_, _≤_}
 use mathlib.Core.Path.{_≡_, refl, sym}
 use mathlib.Core.Bool.{true, false}
@@ -7,8 +7,8 @@ use lib.Dec.{leb}
 use lib.IntN.{ℤ, pos, negsuc}
 use lib.Signed.{ltZ, leZ}
 use borrow.Author.Tests.{le-leb, lt-leb, ltb-true, ltb-false}
-use Rattle.tables.specs.Definitions.Sizes.{farthest, most}
-use Rattle.tables.specs.Definitions.Tables.{positionGood, capacityGood}
+use Rattle.tables.specs.Definitions.Sizes.{farthest, most, mostSort}
+use Rattle.tables.specs.Definitions.Tables.{capacityIn, sortIn, positionGood, capacityGood}
 
 pub position-low : (z : ℤ) → ltZ z (negsuc (farthest - 1)) ≡ true → false ≡ positionGood z
 unfolding positionGood
@@ -20,10 +20,15 @@ unfolding positionGood
 position-high (pos n) h = refl
 position-high (negsuc n) h = sym (le-leb (suc n) farthest (omega (arith, ltb-false (farthest - 1) n h)))
 
-pub capacity-low : (k : ℕ) → k < 1 → false ≡ capacityGood k
-unfolding capacityGood
-capacity-low k h = sym (rw (lt-leb 1 k h))
+module _ (f : ℕ) where
+  pub capacity-low : capacityIn f < 1 → false ≡ capacityGood f
+  unfolding capacityGood
+  capacity-low h = sym (rw (lt-leb 1 (capacityIn f) h))
 
-pub capacity-high : (k : ℕ) → 1 ≤ k → leb k most ≡ capacityGood k
-unfolding capacityGood
-capacity-high k h = sym (rw (le-leb 1 k h))
+  pub capacity-high : 1 ≤ capacityIn f → most < capacityIn f → false ≡ capacityGood f
+  unfolding capacityGood
+  capacity-high l h = sym (rw (le-leb 1 (capacityIn f) l, lt-leb (capacityIn f) most h))
+
+  pub capacity-sort : 1 ≤ capacityIn f → capacityIn f ≤ most → leb (sortIn f) mostSort ≡ capacityGood f
+  unfolding capacityGood
+  capacity-sort l h = sym (rw (le-leb 1 (capacityIn f) l, le-leb (capacityIn f) most h))

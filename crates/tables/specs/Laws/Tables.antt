@@ -13,8 +13,8 @@ use Rattle.matching.specs.Definitions.Nodes.{Node}
 use Rattle.tables.specs.Definitions.Sizes.{numberSize, positionSize, capacitySize, nodeX, nodeY, nodeCapacity, nodeSize, nodeRows, tableSize}
 use Rattle.tables.specs.Definitions.Fields.{Bytes, natAt, natBytes, signed, unsigned, positionAt}
 use Rattle.tables.specs.Definitions.Rows.{flat, padded}
-use Rattle.tables.specs.Definitions.Tables.{nodeFrom, rowNumber, nodesFrom, nodesIn, nodeBytes, tableBytes, fieldsZero, GoodNode, GoodNodes}
-use Rattle.tables.specs.Laws.Fields.{nat-high, nat-drop, nat-read, four-read, signed-unsigned, unsigned-high, unsigned-signed}
+use Rattle.tables.specs.Definitions.Tables.{capacityIn, sortIn, fieldOf, nodeFrom, rowNumber, nodesFrom, nodesIn, nodeBytes, tableBytes, fieldsZero, GoodNode, GoodNodes}
+use Rattle.tables.specs.Laws.Fields.{nat-high, nat-drop, nat-read, four-read, field-capacity, field-sort, field-high, field-whole, signed-unsigned, unsigned-high, unsigned-signed}
 use Rattle.tables.specs.Laws.Rows.{and-split, zeros, flat-length}
 use Rattle.tables.specs.Laws.RowsRead.{padded-length, row-at, rows-read}
 
@@ -25,7 +25,8 @@ node-drop t i = λ j. record {
   number = nat-drop numberSize t i 0 i (omega arith) j;
   x = signed (nat-drop positionSize t i nodeX (i + nodeX) refl j);
   y = signed (nat-drop positionSize t i nodeY (i + nodeY) refl j);
-  capacity = nat-drop capacitySize t i nodeCapacity (i + nodeCapacity) refl j;
+  capacity = capacityIn (nat-drop capacitySize t i nodeCapacity (i + nodeCapacity) refl j);
+  sort = sortIn (nat-drop capacitySize t i nodeCapacity (i + nodeCapacity) refl j);
 }
 
 pub number-drop : (t : List ℕ) (k : ℕ) → rowNumber t k ≡ rowNumber (drop (nodeSize * k) t) 0
@@ -40,13 +41,18 @@ pub node-length : (v : Node) → length (nodeBytes v) ≡ nodeSize
 unfolding nodeBytes natBytes
 node-length v = refl
 
+field-read : (v : Node) (r : List ℕ) → GoodNode v → natAt capacitySize (nodeBytes v ++ r) nodeCapacity ≡ fieldOf v
+unfolding nodeBytes natBytes
+field-read v r g = nat-drop capacitySize (nodeBytes v ++ r) nodeCapacity 0 nodeCapacity refl ∙ nat-read capacitySize (fieldOf v) r (field-high v (g .most) (g .sort))
+
 pub node-read : (v : Node) (r : List ℕ) → GoodNode v → nodeFrom (nodeBytes v ++ r) 0 ≡ v
 unfolding nodeFrom nodeBytes natBytes positionAt
 node-read v r g = λ i. record {
-  number = nat-read numberSize (v .number) (natBytes positionSize (unsigned (v .x)) ++ (natBytes positionSize (unsigned (v .y)) ++ natBytes capacitySize (v .capacity)) ++ r) (g .high) i;
-  x = (ap signed (nat-drop positionSize (nodeBytes v ++ r) nodeX 0 nodeX refl ∙ nat-read positionSize (unsigned (v .x)) (natBytes positionSize (unsigned (v .y)) ++ natBytes capacitySize (v .capacity) ++ r) (unsigned-high (v .x) (g .across))) ∙ signed-unsigned (v .x) (g .across)) i;
-  y = (ap signed (nat-drop positionSize (nodeBytes v ++ r) nodeY 0 nodeY refl ∙ nat-read positionSize (unsigned (v .y)) (natBytes capacitySize (v .capacity) ++ r) (unsigned-high (v .y) (g .up))) ∙ signed-unsigned (v .y) (g .up)) i;
-  capacity = (nat-drop capacitySize (nodeBytes v ++ r) nodeCapacity 0 nodeCapacity refl ∙ nat-read capacitySize (v .capacity) r (omega (arith, g .most))) i;
+  number = nat-read numberSize (v .number) (natBytes positionSize (unsigned (v .x)) ++ (natBytes positionSize (unsigned (v .y)) ++ natBytes capacitySize (fieldOf v)) ++ r) (g .high) i;
+  x = (ap signed (nat-drop positionSize (nodeBytes v ++ r) nodeX 0 nodeX refl ∙ nat-read positionSize (unsigned (v .x)) (natBytes positionSize (unsigned (v .y)) ++ natBytes capacitySize (fieldOf v) ++ r) (unsigned-high (v .x) (g .across))) ∙ signed-unsigned (v .x) (g .across)) i;
+  y = (ap signed (nat-drop positionSize (nodeBytes v ++ r) nodeY 0 nodeY refl ∙ nat-read positionSize (unsigned (v .y)) (natBytes capacitySize (fieldOf v) ++ r) (unsigned-high (v .y) (g .up))) ∙ signed-unsigned (v .y) (g .up)) i;
+  capacity = (ap capacityIn (field-read v r g) ∙ field-capacity v (g .most)) i;
+  sort = (ap sortIn (field-read v r g) ∙ field-sort v (g .most)) i;
 }
 
 number-read : (v : Node) (r : List ℕ) → GoodNode v → natAt numberSize (nodeBytes v ++ r) 0 ≡ v .number
@@ -88,7 +94,7 @@ row-fields r i h l = four-read numberSize positionSize positionSize capacitySize
 pub node-write : (r : List ℕ) (i : ℕ) → Bytes r → i + nodeSize ≤ length r → nodeBytes (nodeFrom r i) ≡ take nodeSize (drop i r)
 unfolding nodeBytes nodeFrom positionAt
 node-write r i h l =
-    rw (unsigned-signed (natAt positionSize r (i + nodeX)) (nat-high positionSize r h (i + nodeX)), unsigned-signed (natAt positionSize r (i + nodeY)) (nat-high positionSize r h (i + nodeY)))
+    rw (unsigned-signed (natAt positionSize r (i + nodeX)) (nat-high positionSize r h (i + nodeX)), unsigned-signed (natAt positionSize r (i + nodeY)) (nat-high positionSize r h (i + nodeY)), field-whole (natAt capacitySize r (i + nodeCapacity)))
     (row-fields r i h l)
 
 pub row-node : (r : List ℕ) → Bytes r → nodeSize ≤ length r → nodeBytes (nodeFrom r 0) ++ drop nodeSize r ≡ r
