@@ -12,3 +12,4 @@ pub mod Step
 pub mod Order
 pub mod Merge
 pub mod Runs
+pub mod Sorts

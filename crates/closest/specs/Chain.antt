@@ -31,7 +31,7 @@ module _ (R : Rows) (left chain : List ℕ) (n : ℕ) where
   at h = getD chain h 0
 
   -- A chain of n rows: each has something left and the next as its nearest; the pairs along it come ever earlier.
-  -- So no row stands in it twice, and 1,025 places are room enough.
+  -- So no row stands in it twice, and 1,153 places are room enough.
   pub record Chain : Type 0 where
     pub room : length chain ≡ chainRows
     pub held : (h : ℕ) → h < n → Held R (at h)
@@ -144,11 +144,15 @@ module _ (R : Rows) where
     pub fenced : Fenced R E X
     pub path : Chain R left chain (s .depth)
 
+  -- There is room for the links to be taken after the first n.
+  pub record Room (left : List ℕ) (L : Table) (n : ℕ) : Type 0 where
+    pub size : length L ≡ linkRows
+    pub most : n + length (rest R left) ≤ linkRows
+
   -- The state of a run.
   pub record Good (left : List ℕ) (Q : Lists) (E : List (List ℕ)) (X : List (List ℤ)) (chain : List ℕ) (L : Table) (s : State) : Type 0 where
     pub ready : Ready left Q E X chain s
-    pub room : length L ≡ linkRows
-    pub count : s .links + length (rest R left) ≤ linkRows
+    pub room : Room left L (s .links)
 
   -- What falls with each step: the links to come, then the room on the chain.
   abbrev pub toGo : List ℕ → State → ℕ
@@ -161,8 +165,8 @@ module _ (R : Rows) where
     pub falls : toGo left' r < toGo left s
     pub ends : r .more ≡ false → rest R left' ≡ []
 
-  -- All pairs are taken: the n links written, each put in at its place, are those that were to be taken.
-  pub record Picked (left : List ℕ) (L : Table) (n : ℕ) : Type 0 where
+  -- All pairs are taken: the n links that there are then, put in order, are the first k put in among those that were to be taken.
+  pub record Picked (left : List ℕ) (L : Table) (k : ℕ) (L' : Table) (n : ℕ) : Type 0 where
     pub most : n ≤ linkRows
-    pub room : length L ≡ linkRows
-    pub all : puts (linksIn L n) [] ≡ rest R left
+    pub room : length L' ≡ linkRows
+    pub all : puts (linksIn L' n) [] ≡ whole left L k

@@ -6,7 +6,7 @@ use lib.Dec.{ltb}
 use lib.ListN.{getD}
 use lib.IntN.{ℤ}
 use Rattle.matching.specs.declared.Spans.{Spans}
-use Rattle.matching.specs.Definitions.Nodes.{Master, masterA, masterB}
+use Rattle.matching.specs.Definitions.Nodes.{Master, masterA, masterB, other}
 use Rattle.matching.specs.Definitions.Pairs.{Pair}
 use Rattle.matching.specs.Definitions.Links.{Link}
 use Rattle.matching.specs.Definitions.Join.{join}
@@ -22,11 +22,6 @@ pub record Rows : Type 0 where
 -- The same from its parts.
 abbrev pub rows : List ℕ → List (List ℤ) → Spans → Rows
 rows ns at s = record { ns = ns; at = at; spans = s }
-
--- The other master.
-abbrev pub other : Master → Master
-other masterA = masterB
-other masterB = masterA
 
 module _ (R : Rows) where
   -- Row k is one of them.
@@ -51,10 +46,10 @@ module _ (R : Rows) where
   unfoldable pub between : ℕ → ℕ → Pair
   between t k = cond (ltb t half) (rowPair t k) (rowPair k t)
 
-  -- The links still to be taken: the join of what is left.
+  -- The links still to be taken: the join of what is left. Rows of one sort all pair, whatever the sort.
   unfoldable pub rest : List ℕ → List Link
   unfolding nodesOn join
-  rest left = join (nodesOn (R .spans) (R .ns) (R .at) left masterA) (nodesOn (R .spans) (R .ns) (R .at) left masterB)
+  rest left = join (nodesOn 0 (R .spans) (R .ns) (R .at) left masterA) (nodesOn 0 (R .spans) (R .ns) (R .at) left masterB)
 
   -- What every step may rely on.
   abbrev pub Sound : List ℕ → Type 0

@@ -3,7 +3,7 @@ use Prim.Native.Nat.{ℕ}
 
 -- The places of a chain on which no row stands twice, with one to spare.
 abbrev pub chainRows : ℕ
-chainRows = 1025
+chainRows = 1153
 
 -- Above every key.
 abbrev pub farKey : ℕ

@@ -8,12 +8,10 @@ use matching::sizes::BLOCKS;
 use matching::sizes::ROWS;
 ghost use mathlib.Core.Path.{_≡_};
 ghost use mathlib.Core.Bool.{true};
-ghost use lib.ListN.{length};
-ghost use Rattle.matching.specs.Definitions.Sizes.{linkRows};
 ghost use Rattle.closest.specs.Rows.{rows, Sound};
 ghost use Rattle.closest.specs.Live.{lists};
 ghost use Rattle.closest.specs.Blocks.{Kept, Fenced};
-ghost use Rattle.closest.specs.Chain.{Good, Stepped, Picked};
+ghost use Rattle.closest.specs.Chain.{Good, Stepped, Room, Picked};
 
 // Pushes a row or takes a pair.
 fn step(
@@ -69,7 +67,7 @@ fn step(
     r
 }
 
-// Takes pairs until none is left; gives the number of links, which stand in the order of the picks.
+// Takes pairs until none is left, and writes their links after the first n, in the order of the picks; gives the number of links then.
 fn run(
     s: Spans,
     ns: &[u32],
@@ -81,15 +79,17 @@ fn run(
     ends: &mut [[u32; 2]],
     boxes: &[[i16; 4]],
     links: &mut [[u32; 4]],
+    n: usize,
 ) -> usize
-    requires { ⌜ Sound (rows (now ns) (now at) s) (now left) × Fenced (rows (now ns) (now at) s) (now ends) (now boxes) × (length (now links) ≡ linkRows) ⌝ }
-    requires { ⌜ Kept (rows (now ns) (now at) s) (now left) (lists (now listed) (now points) (now spot)) (now ends) ⌝ }
-    ensures { λ r. ⌜ Picked (rows (now (ns .entry)) (now (at .entry)) s) (now (left .entry)) (now (links .exit)) r ⌝ }
+    requires { ⌜ Sound (rows (now ns) (now at) s) (now left) × Fenced (rows (now ns) (now at) s) (now ends) (now boxes) ⌝ }
+    requires { ⌜ Kept (rows (now ns) (now at) s) (now left) (lists (now listed) (now points) (now spot)) (now ends)
+        × Room (rows (now ns) (now at) s) (now left) (now links) n ⌝ }
+    ensures { λ r. ⌜ Picked (rows (now (ns .entry)) (now (at .entry)) s) (now (left .entry)) (now (links .entry)) n (now (links .exit)) r ⌝ }
 {
     let mut chain = [0u16; sizes::CHAIN];
     let mut state = chain::State {
         depth: 0,
-        links: 0,
+        links: n,
         more: true,
     };
     while state.more {
@@ -111,16 +111,17 @@ fn run(
     state.links
 }
 
-// Lists the rows and puts boxes around them, and takes pairs until none is left.
+// Lists the rows and puts boxes around them, and takes pairs until none is left; their links come after the first n.
 pub fn pick(
     s: Spans,
     ns: &[u32],
     at: &[[i16; 2]],
     left: &mut [u32],
     links: &mut [[u32; 4]],
+    n: usize,
 ) -> usize
-    requires { ⌜ Sound (rows (now ns) (now at) s) (now left) × (length (now links) ≡ linkRows) ⌝ }
-    ensures { λ r. ⌜ Picked (rows (now (ns .entry)) (now (at .entry)) s) (now (left .entry)) (now (links .exit)) r ⌝ }
+    requires { ⌜ Sound (rows (now ns) (now at) s) (now left) × Room (rows (now ns) (now at) s) (now left) (now links) n ⌝ }
+    ensures { λ r. ⌜ Picked (rows (now (ns .entry)) (now (at .entry)) s) (now (left .entry)) (now (links .entry)) n (now (links .exit)) r ⌝ }
 {
     let mut listed = [[0u32; 2]; ROWS];
     let mut points = [[0i16; 2]; ROWS];
@@ -160,5 +161,6 @@ pub fn pick(
         &mut ends,
         &boxes,
         links,
+        n,
     )
 }

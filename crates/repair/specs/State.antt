@@ -6,8 +6,9 @@ use lib.ListN.{length, getD}
 use lib.IntN.{ℤ}
 use Rattle.matching.specs.declared.Range.{Range}
 use Rattle.matching.specs.declared.Spans.{Spans}
+use Rattle.matching.specs.declared.Sorts.{Sorts}
 use Rattle.matching.specs.Definitions.Columns.{Inside}
-use Rattle.matching.specs.Definitions.Rows.{xAt, yAt}
+use Rattle.matching.specs.Definitions.Rows.{spansOf, xAt, yAt}
 use Rattle.matching.specs.Definitions.Sizes.{setRows, setBlocks, blockRows, linkRows}
 use Rattle.boxes.specs.Boxes.{Inner}
 use Rattle.repair.specs.declared.nearest.Two.{Two}
@@ -15,23 +16,24 @@ use Rattle.repair.specs.declared.nearest.Found.{Found}
 use Rattle.repair.specs.declared.run.Run.{Run}
 use Rattle.repair.specs.Sizes.{surplusRows}
 
--- The rows of a range have a number and a position inside.
+-- The rows of a range have a number and a position inside, and begin with a block.
 pub record Ranged (ns : List ℕ) (at : List (List ℤ)) (r : Range) : Type 0 where
   pub numbers : length ns ≡ setRows
   pub positions : length at ≡ setRows
   pub order : r .from ≤ r .to
   pub end : r .to ≤ setRows
+  pub begins : r .from ≡ r .from / blockRows * blockRows
   pub inside : (k : ℕ) → r .from ≤ k → k < r .to → Inside (xAt at k) (yAt at k)
 
--- So have the rows of both masters.
+-- So it is with the rows of both masters,
 pub record Both (ns : List ℕ) (at : List (List ℤ)) (s : Spans) : Type 0 where
   pub a : Ranged ns at (s .a)
   pub b : Ranged ns at (s .b)
 
--- Each master's rows begin with a block.
-pub record Aligned (s : Spans) : Type 0 where
-  pub a : s .a .from ≡ s .a .from / blockRows * blockRows
-  pub b : s .b .from ≡ s .b .from / blockRows * blockRows
+-- of either sort.
+pub record Each (ns : List ℕ) (at : List (List ℤ)) (s : Sorts) : Type 0 where
+  pub numbers : length ns ≡ setRows
+  pub both : (t : ℕ) → Both ns at (spansOf s t)
 
 -- Each block has a box, which is inside.
 pub record Boxed (boxes : List (List ℤ)) : Type 0 where

@@ -2,7 +2,7 @@
 use crate::sizes;
 use matching::Range;
 use matching::sizes::BLOCK;
-ghost use Prim.Native.Nat.{_+_, _*_, _/_, _<_, _≤_};
+ghost use Prim.Native.Nat.{_+_, _<_, _≤_};
 ghost use mathlib.Core.Path.{_≡_};
 ghost use lib.ListN.{length};
 ghost use Rattle.matching.specs.Definitions.Columns.{Inside};
@@ -48,7 +48,7 @@ pub fn survey(
     blocks: &mut [[u32; 2]],
     boxes: &mut [[i16; 4]],
 )
-    requires { ⌜ Ranged (now ns) (now at) r × (r .from ≡ r .from / blockRows * blockRows) × (length (now blocks) ≡ setBlocks) × Boxed (now boxes) ⌝ }
+    requires { ⌜ Ranged (now ns) (now at) r × (length (now blocks) ≡ setBlocks) × Boxed (now boxes) ⌝ }
     ensures { λ _. ⌜ Boxed (now (boxes .exit)) ⌝ }
 {
     let mut b = r.from / BLOCK;

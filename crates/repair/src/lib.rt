@@ -13,11 +13,12 @@ ghost use Prim.Native.Nat.{_≤_, suc};
 ghost use mathlib.Core.Path.{_≡_};
 ghost use lib.ListN.{length};
 ghost use Rattle.matching.specs.Definitions.Sizes.{linkRows, setRows};
-ghost use Rattle.matching.specs.Definitions.Rows.{Fit};
+ghost use Rattle.matching.specs.Definitions.Rows.{Fits};
 ghost use Rattle.repair.specs.Repair.{Links};
 ghost use Rattle.repair.specs.Sizes.{surplusRows};
-ghost use Rattle.repair.specs.State.{Both, Aligned, Boxed, Counted, Fair};
+ghost use Rattle.repair.specs.State.{Both, Each, Boxed, Counted, Fair};
 use matching::Range;
+use matching::Sorts;
 use matching::Spans;
 use matching::sizes::BLOCKS;
 use matching::sizes::ROWS;
@@ -37,8 +38,8 @@ fn row_of(number: u32, r: Range, ns: &[u32]) -> usize
     ROWS
 }
 
-// The row of the edited node; ROWS where it is not there.
-fn edited(number: u32, second: bool, s: Spans, ns: &[u32]) -> usize
+// The row of a master, the second or the first, with this number, among those of a sort; ROWS where there is none.
+fn row_in(number: u32, second: bool, s: Spans, ns: &[u32]) -> usize
     requires { ⌜ (s .a .to ≤ setRows) × (s .b .to ≤ setRows) × (length (now ns) ≡ setRows) ⌝ }
     ensures { λ k. ⌜ k ≤ setRows ⌝ }
 {
@@ -48,8 +49,20 @@ fn edited(number: u32, second: bool, s: Spans, ns: &[u32]) -> usize
     row_of(number, s.a, ns)
 }
 
-// The blocks, and what the rows have left, before the first link.
-fn prepare(
+// The row of the edited node, which is of either sort; ROWS where it is not there.
+fn edited(number: u32, second: bool, s: Sorts, ns: &[u32]) -> usize
+    requires { ⌜ (s .on .a .to ≤ setRows) × (s .on .b .to ≤ setRows) × (s .off .a .to ≤ setRows) × (s .off .b .to ≤ setRows) × (length (now ns) ≡ setRows) ⌝ }
+    ensures { λ k. ⌜ k ≤ setRows ⌝ }
+{
+    let k = row_in(number, second, s.on, ns);
+    if k < ROWS {
+        return k;
+    }
+    row_in(number, second, s.off, ns)
+}
+
+// The blocks of a sort, and what its rows have left, before the first link.
+fn prepare_sort(
     s: Spans,
     ns: &[u32],
     at: &[[i16; 2]],
@@ -58,7 +71,7 @@ fn prepare(
     blocks: &mut [[u32; 2]],
     boxes: &mut [[i16; 4]],
 )
-    requires { ⌜ Both (now ns) (now at) s × Aligned s × (length (now cs) ≡ setRows) × Counted (now left) (now blocks) × Boxed (now boxes) ⌝ }
+    requires { ⌜ Both (now ns) (now at) s × (length (now cs) ≡ setRows) × Counted (now left) (now blocks) × Boxed (now boxes) ⌝ }
     ensures { λ _. ⌜ Boxed (now (boxes .exit)) ⌝ }
 {
     blocks::survey(s.a, ns, at, blocks, boxes);
@@ -67,10 +80,27 @@ fn prepare(
     left::fill(s.b, cs, left);
 }
 
+// So it is with both sorts.
+fn prepare(
+    s: Sorts,
+    ns: &[u32],
+    at: &[[i16; 2]],
+    cs: &[u32],
+    left: &mut [[u32; 2]],
+    blocks: &mut [[u32; 2]],
+    boxes: &mut [[i16; 4]],
+)
+    requires { ⌜ Each (now ns) (now at) s × (length (now cs) ≡ setRows) × Counted (now left) (now blocks) × Boxed (now boxes) ⌝ }
+    ensures { λ _. ⌜ Boxed (now (boxes .exit)) ⌝ }
+{
+    prepare_sort(s.on, ns, at, cs, left, blocks, boxes);
+    prepare_sort(s.off, ns, at, cs, left, blocks, boxes);
+}
+
 // The run begins: row k, if there is such a one, is the edited node's, which had nothing left.
 fn start(
     k: usize,
-    s: Spans,
+    s: Sorts,
     ns: &[u32],
     at: &[[i16; 2]],
     left: &mut [[u32; 2]],
@@ -78,7 +108,7 @@ fn start(
     boxes: &[[i16; 4]],
     surplus: &mut [[u64; 2]],
 ) -> run::Run
-    requires { ⌜ Both (now ns) (now at) s × Counted (now left) (now blocks) × Boxed (now boxes) × (length (now surplus) ≡ surplusRows) ⌝ }
+    requires { ⌜ Each (now ns) (now at) s × Counted (now left) (now blocks) × Boxed (now boxes) × (length (now surplus) ≡ surplusRows) ⌝ }
     ensures { λ r. ⌜ Fair r ⌝ }
 {
     let r = run::Run {
@@ -101,7 +131,7 @@ pub fn repair(
     ns: &[u32],
     at: &[[i16; 2]],
     cs: &[u32],
-    s: Spans,
+    s: Sorts,
     number: u32,
     second: bool,
     old: &[[u32; 4]],
@@ -110,7 +140,7 @@ pub fn repair(
     new: &mut [[u32; 4]],
     to: &mut [[u16; 2]],
 ) -> usize
-    requires { ⌜ Fit (now ns) (now at) (now cs) s × Links (now old) (now from) n × Links (now new) (now to) 0 ⌝ }
+    requires { ⌜ Fits (now ns) (now at) (now cs) s × Links (now old) (now from) n × Links (now new) (now to) 0 ⌝ }
     ensures { λ r. ⌜ (r ≤ suc linkRows) × Links (now (new .exit)) (now (to .exit)) 0 ⌝ }
 {
     let mut left = [[0u32; 2]; ROWS];

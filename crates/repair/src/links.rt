@@ -5,7 +5,7 @@ use crate::pairs;
 use crate::run::Run;
 use crate::surplus;
 use matching::Range;
-use matching::Spans;
+use matching::Sorts;
 use matching::sizes::LINKS;
 use matching::sizes::ROWS;
 ghost use Prim.Native.Nat.{_<_, _≤_};
@@ -14,7 +14,7 @@ ghost use lib.ListN.{length};
 ghost use Rattle.matching.specs.Definitions.Sizes.{setRows};
 ghost use Rattle.repair.specs.Repair.{Links};
 ghost use Rattle.repair.specs.Sizes.{surplusRows};
-ghost use Rattle.repair.specs.State.{Both, Boxed, Counted, Fair};
+ghost use Rattle.repair.specs.State.{Each, Boxed, Counted, Fair};
 
 // Writes the link of A's row i and B's row j, at distance d with amount m, unless that is nothing.
 fn write(
@@ -44,12 +44,11 @@ fn write(
     r
 }
 
-// The row of a range where a node with this number is said to stand; ROWS where it does not.
-fn find(place: u16, number: u32, r: Range, ns: &[u32]) -> usize
+// Row k of a range, if it has this number; ROWS where it has not.
+fn stands(k: usize, number: u32, r: Range, ns: &[u32]) -> usize
     requires { ⌜ (r .to ≤ setRows) × (length (now ns) ≡ setRows) ⌝ }
     ensures { λ k. ⌜ k ≤ setRows ⌝ }
 {
-    let k = place as usize;
     if k < r.from {
         return ROWS;
     }
@@ -60,6 +59,18 @@ fn find(place: u16, number: u32, r: Range, ns: &[u32]) -> usize
         return ROWS;
     }
     k
+}
+
+// The row where a node with this number is said to stand, among the on-curve or the off-curve rows of its master; ROWS where it does not.
+fn find(place: u16, number: u32, on: Range, off: Range, ns: &[u32]) -> usize
+    requires { ⌜ (on .to ≤ setRows) × (off .to ≤ setRows) × (length (now ns) ≡ setRows) ⌝ }
+    ensures { λ k. ⌜ k ≤ setRows ⌝ }
+{
+    let k = place as usize;
+    if k < off.from {
+        return stands(k, number, on, ns);
+    }
+    stands(k, number, off, ns)
 }
 
 // The old link of the rows i and j, if both are there, is taken with what they have left.
@@ -93,7 +104,7 @@ fn release(
     k: usize,
     m: u32,
     near: u16,
-    s: Spans,
+    s: Sorts,
     ns: &[u32],
     at: &[[i16; 2]],
     left: &mut [[u32; 2]],
@@ -101,7 +112,7 @@ fn release(
     boxes: &[[i16; 4]],
     surplus: &mut [[u64; 2]],
 ) -> Run
-    requires { ⌜ Fair run × Both (now ns) (now at) s × Counted (now left) (now blocks) × Boxed (now boxes) × (length (now surplus) ≡ surplusRows) ⌝ }
+    requires { ⌜ Fair run × Each (now ns) (now at) s × Counted (now left) (now blocks) × Boxed (now boxes) × (length (now surplus) ≡ surplusRows) ⌝ }
     ensures { λ r. ⌜ Fair r ⌝ }
 {
     if k >= ROWS {
@@ -118,7 +129,7 @@ pub fn take_old(
     run: Run,
     link: [u32; 4],
     places: [u16; 2],
-    s: Spans,
+    s: Sorts,
     ns: &[u32],
     at: &[[i16; 2]],
     left: &mut [[u32; 2]],
@@ -128,12 +139,12 @@ pub fn take_old(
     new: &mut [[u32; 4]],
     to: &mut [[u16; 2]],
 ) -> Run
-    requires { ⌜ Fair run × Both (now ns) (now at) s × Counted (now left) (now blocks) × Boxed (now boxes) × (length (now surplus) ≡ surplusRows) ⌝ }
+    requires { ⌜ Fair run × Each (now ns) (now at) s × Counted (now left) (now blocks) × Boxed (now boxes) × (length (now surplus) ≡ surplusRows) ⌝ }
     requires { ⌜ Links (now new) (now to) 0 ⌝ }
     ensures { λ r. ⌜ Fair r ⌝ }
 {
-    let i = find(places[0], link[0], s.a, ns);
-    let j = find(places[1], link[1], s.b, ns);
+    let i = find(places[0], link[0], s.on.a, s.off.a, ns);
+    let j = find(places[1], link[1], s.on.b, s.off.b, ns);
     let m = link[3];
     let r = relink(run, i, j, link[2], ns, left, blocks, new, to);
     let q = release(r, i, m, places[1], s, ns, at, left, blocks, boxes, surplus);
@@ -143,7 +154,7 @@ pub fn take_old(
 // The earliest candidate, if there is one, is taken with what its rows have left.
 pub fn take_candidate(
     run: Run,
-    s: Spans,
+    s: Sorts,
     ns: &[u32],
     at: &[[i16; 2]],
     left: &mut [[u32; 2]],
@@ -153,7 +164,7 @@ pub fn take_candidate(
     new: &mut [[u32; 4]],
     to: &mut [[u16; 2]],
 ) -> Run
-    requires { ⌜ Fair run × Both (now ns) (now at) s × Counted (now left) (now blocks) × Boxed (now boxes) × (length (now surplus) ≡ surplusRows) ⌝ }
+    requires { ⌜ Fair run × Each (now ns) (now at) s × Counted (now left) (now blocks) × Boxed (now boxes) × (length (now surplus) ≡ surplusRows) ⌝ }
     requires { ⌜ Links (now new) (now to) 0 ⌝ }
     ensures { λ r. ⌜ Fair r ⌝ }
 {

@@ -2,8 +2,10 @@
 use crate::blocks;
 use crate::sizes;
 use matching::Range;
+use matching::Sorts;
 use matching::Spans;
 use matching::sizes::BLOCK;
+use matching::sizes::HALF;
 use matching::sizes::ROWS;
 ghost use Prim.Native.Nat.{_+_, _<_, _≤_};
 ghost use mathlib.Core.Path.{_≡_};
@@ -11,7 +13,7 @@ ghost use lib.ListN.{length};
 ghost use Rattle.matching.specs.Definitions.Columns.{Inside};
 ghost use Rattle.matching.specs.Definitions.Rows.{across, upward};
 ghost use Rattle.matching.specs.Definitions.Sizes.{setRows, setBlocks};
-ghost use Rattle.repair.specs.State.{Ranged, Both, Boxed, Nearest, Searched};
+ghost use Rattle.repair.specs.State.{Ranged, Both, Each, Boxed, Nearest, Searched};
 
 // A row, and its distance and number as one key: the lesser key comes first.
 pub struct Near {
@@ -162,8 +164,8 @@ fn search(
     f
 }
 
-// The two nearest to row t of the other master's rows that have something left; the block of row `near` is looked through first.
-pub fn partners(
+// The two nearest to row t of the other master's rows among those of a sort, if t is one of them.
+fn among(
     t: usize,
     near: usize,
     s: Spans,
@@ -191,4 +193,31 @@ pub fn partners(
         two: none(),
         scans: 0,
     }
+}
+
+// Whether row k is off-curve: a master's off-curve rows stand after its on-curve ones.
+fn is_off_curve(k: usize, s: Sorts) -> bool {
+    if k < HALF {
+        return k >= s.off.a.from;
+    }
+    k >= s.off.b.from
+}
+
+// The two nearest to row t of the other master's rows of its sort that have something left; the block of row `near` is looked through first.
+pub fn partners(
+    t: usize,
+    near: usize,
+    s: Sorts,
+    ns: &[u32],
+    at: &[[i16; 2]],
+    blocks: &[[u32; 2]],
+    boxes: &[[i16; 4]],
+) -> Found
+    requires { ⌜ Each (now ns) (now at) s × (length (now blocks) ≡ setBlocks) × Boxed (now boxes) ⌝ }
+    ensures { λ f. ⌜ Searched f ⌝ }
+{
+    if is_off_curve(t, s) {
+        return among(t, near, s.off, ns, at, blocks, boxes);
+    }
+    among(t, near, s.on, ns, at, blocks, boxes)
 }

@@ -1,6 +1,7 @@
 // Pairs of a row with a surplus and a row of the other master: their distance, the row with the surplus and the other one, as one number.
 use crate::nearest::Near;
 use crate::sizes;
+use matching::sizes::ROWS;
 ghost use Prim.Native.Nat.{_<_};
 ghost use mathlib.Core.Path.{_≡_};
 ghost use lib.ListN.{length};
@@ -19,18 +20,25 @@ pub fn pair(t: usize, n: Near) -> u64
     )
 }
 
+// The row in some bits of a pair; it is one of the set, so that the second remainder changes nothing.
+fn row(bits: u64) -> usize
+    ensures { λ r. ⌜ r < setRows ⌝ }
+{
+    (bits % sizes::WIDTH) as usize % ROWS
+}
+
 // The row with the surplus.
 pub fn owner(p: u64) -> usize
     ensures { λ r. ⌜ r < setRows ⌝ }
 {
-    (p / sizes::WIDTH % sizes::WIDTH) as usize
+    row(p / sizes::WIDTH)
 }
 
 // The other row.
 pub fn partner(p: u64) -> usize
     ensures { λ r. ⌜ r < setRows ⌝ }
 {
-    (p % sizes::WIDTH) as usize
+    row(p)
 }
 
 // Of two rows of different masters the lesser is A's,

@@ -5,7 +5,7 @@ use crate::links;
 use crate::pairs;
 use crate::sizes;
 use crate::surplus;
-use matching::Spans;
+use matching::Sorts;
 use matching::sizes::LINKS;
 use matching::sizes::ROWS;
 ghost use Prim.Native.Nat.{_<_, _≤_, suc};
@@ -15,7 +15,7 @@ ghost use lib.ListN.{length};
 ghost use Rattle.matching.specs.Definitions.Sizes.{setRows, linkRows};
 ghost use Rattle.repair.specs.Repair.{Links};
 ghost use Rattle.repair.specs.Sizes.{surplusRows};
-ghost use Rattle.repair.specs.State.{Both, Boxed, Counted, Fair};
+ghost use Rattle.repair.specs.State.{Each, Boxed, Counted, Fair};
 
 // The next old link, how many links are written, how many rows have a surplus, the place of the earliest candidate, and what the run has cost.
 pub struct Run {
@@ -140,7 +140,7 @@ fn is_next(run: Run, ns: &[u32], old: &[[u32; 4]], surplus: &[[u64; 2]]) -> bool
 // The old links ahead that are as they were, and then the earlier of the next one and of the earliest candidate.
 fn turn(
     run: Run,
-    s: Spans,
+    s: Sorts,
     ns: &[u32],
     at: &[[i16; 2]],
     old: &[[u32; 4]],
@@ -152,7 +152,7 @@ fn turn(
     new: &mut [[u32; 4]],
     to: &mut [[u16; 2]],
 ) -> Run
-    requires { ⌜ Fair run × Both (now ns) (now at) s × (length (now old) ≤ linkRows) × (length (now old) ≤ length (now from)) ⌝ }
+    requires { ⌜ Fair run × Each (now ns) (now at) s × (length (now old) ≤ linkRows) × (length (now old) ≤ length (now from)) ⌝ }
     requires { ⌜ Counted (now left) (now blocks) × Boxed (now boxes) × (length (now surplus) ≡ surplusRows) × Links (now new) (now to) 0 ⌝ }
     ensures { λ r. ⌜ Fair r ⌝ }
 {
@@ -189,7 +189,7 @@ fn is_done(run: Run, n: usize) -> bool {
 // All links; gives their number, or more than there can be where the run costs too much.
 pub fn all(
     run: Run,
-    s: Spans,
+    s: Sorts,
     ns: &[u32],
     at: &[[i16; 2]],
     old: &[[u32; 4]],
@@ -201,7 +201,7 @@ pub fn all(
     new: &mut [[u32; 4]],
     to: &mut [[u16; 2]],
 ) -> usize
-    requires { ⌜ Fair run × Both (now ns) (now at) s × (length (now old) ≤ linkRows) × (length (now old) ≤ length (now from)) ⌝ }
+    requires { ⌜ Fair run × Each (now ns) (now at) s × (length (now old) ≤ linkRows) × (length (now old) ≤ length (now from)) ⌝ }
     requires { ⌜ Counted (now left) (now blocks) × Boxed (now boxes) × (length (now surplus) ≡ surplusRows) × Links (now new) (now to) 0 ⌝ }
     ensures { λ r. ⌜ r ≤ suc linkRows ⌝ }
 {

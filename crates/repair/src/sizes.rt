@@ -20,7 +20,7 @@ pub const TURNS: usize = 8192;
 pub const NONE: u64 = 18446744073709551615;
 
 // What the first row of a pair is multiplied by.
-pub const WIDTH: u64 = 1024;
+pub const WIDTH: u64 = 2048;
 
 // A bit for every row of a block.
 pub const FULL: u32 = 4294967295;

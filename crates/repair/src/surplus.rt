@@ -6,13 +6,13 @@ use crate::nearest;
 use crate::pairs;
 use crate::run::Run;
 use crate::sizes;
-use matching::Spans;
+use matching::Sorts;
 ghost use Prim.Native.Nat.{_<_, _≤_};
 ghost use mathlib.Core.Path.{_≡_};
 ghost use lib.ListN.{length};
 ghost use Rattle.matching.specs.Definitions.Sizes.{setRows, setBlocks};
 ghost use Rattle.repair.specs.Sizes.{surplusRows};
-ghost use Rattle.repair.specs.State.{Both, Boxed, Counted, Fair};
+ghost use Rattle.repair.specs.State.{Each, Boxed, Counted, Fair};
 
 // The earliest candidate; none where no row has a surplus.
 pub fn candidate(run: Run, surplus: &[[u64; 2]]) -> u64
@@ -65,14 +65,14 @@ pub fn enter(
     run: Run,
     t: usize,
     near: usize,
-    s: Spans,
+    s: Sorts,
     ns: &[u32],
     at: &[[i16; 2]],
     blocks: &[[u32; 2]],
     boxes: &[[i16; 4]],
     surplus: &mut [[u64; 2]],
 ) -> Run
-    requires { ⌜ Fair run × (t < setRows) × Both (now ns) (now at) s × (length (now blocks) ≡ setBlocks) × Boxed (now boxes)
+    requires { ⌜ Fair run × (t < setRows) × Each (now ns) (now at) s × (length (now blocks) ≡ setBlocks) × Boxed (now boxes)
         × (length (now surplus) ≡ surplusRows) ⌝ }
     ensures { λ r. ⌜ Fair r ⌝ }
 {
@@ -117,14 +117,14 @@ fn remove(run: Run, ns: &[u32], surplus: &mut [[u64; 2]]) -> Run
 fn replace(
     run: Run,
     p: u64,
-    s: Spans,
+    s: Sorts,
     ns: &[u32],
     at: &[[i16; 2]],
     blocks: &[[u32; 2]],
     boxes: &[[i16; 4]],
     surplus: &mut [[u64; 2]],
 ) -> Run
-    requires { ⌜ Fair run × Both (now ns) (now at) s × (length (now blocks) ≡ setBlocks) × Boxed (now boxes) × (length (now surplus) ≡ surplusRows) ⌝ }
+    requires { ⌜ Fair run × Each (now ns) (now at) s × (length (now blocks) ≡ setBlocks) × Boxed (now boxes) × (length (now surplus) ≡ surplusRows) ⌝ }
     ensures { λ r. ⌜ Fair r ⌝ }
 {
     let e = run.first;
@@ -155,7 +155,7 @@ fn is_open(p: u64, left: &[[u32; 2]]) -> bool
 pub fn advance(
     run: Run,
     p: u64,
-    s: Spans,
+    s: Sorts,
     ns: &[u32],
     at: &[[i16; 2]],
     left: &[[u32; 2]],
@@ -163,7 +163,7 @@ pub fn advance(
     boxes: &[[i16; 4]],
     surplus: &mut [[u64; 2]],
 ) -> Run
-    requires { ⌜ Fair run × Both (now ns) (now at) s × Counted (now left) (now blocks) × Boxed (now boxes) × (length (now surplus) ≡ surplusRows) ⌝ }
+    requires { ⌜ Fair run × Each (now ns) (now at) s × Counted (now left) (now blocks) × Boxed (now boxes) × (length (now surplus) ≡ surplusRows) ⌝ }
     ensures { λ r. ⌜ Fair r ⌝ }
 {
     let e = run.first;

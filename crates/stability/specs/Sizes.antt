@@ -5,6 +5,6 @@ use Prim.Native.Nat.{ℕ}
 abbrev pub free : ℕ
 free = 18446744073709551615
 
--- The most blocks of a master.
-abbrev pub masterBlocks : ℕ
-masterBlocks = 16
+-- The most blocks of a range.
+abbrev pub rangeBlocks : ℕ
+rangeBlocks = 16

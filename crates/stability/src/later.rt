@@ -17,7 +17,7 @@ fn later(old: u64, new: u64) -> u64
 // Puts into e the limits of the rows that have; the other rows take no pair.
 pub fn only_later(r: Range, old: &[u64], new: &[u64], e: &mut [u64])
     requires { ⌜ (r .from ≤ r .to) × (r .to ≤ length (now old)) × (r .to ≤ length (now new)) × (r .to ≤ length (now e)) ⌝ }
-    ensures { λ _. ⌜ Filled r (λ i l. Later (getD (now (old .entry)) i 0) (getD (now (new .entry)) i 0) l) (now (e .entry)) (now (e .exit)) ⌝ }
+    ensures { λ _. ⌜ Filled (RowOf r) (λ i _ l. Later (getD (now (old .entry)) i 0) (getD (now (new .entry)) i 0) l) (now (e .entry)) (now (e .exit)) ⌝ }
 {
     let mut i = r.from;
     while i < r.to {

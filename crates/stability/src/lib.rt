@@ -1,4 +1,4 @@
-// Whether links are the join of two masters, told without joining them anew: in one pass over the links and one over the pairs.
+// Whether links are the join of two masters, told without joining them anew: in one pass over the links and one over the pairs of each sort.
 // Limits by which no pair blocks are lent, and only pairs that may block by the links' own limits are looked at.
 mod blocking;
 mod blocks;
@@ -10,12 +10,12 @@ mod passes;
 mod sizes;
 mod spread;
 
-use matching::Spans;
+use matching::Sorts;
 ghost use mathlib.Core.Path.{_≡_};
 ghost use mathlib.Core.Bool.{true};
 ghost use Rattle.matching.specs.Definitions.Nodes.{masterA, masterB};
 ghost use Rattle.matching.specs.Definitions.Join.{join};
-ghost use Rattle.matching.specs.Definitions.Rows.{nodesOn, linksIn};
+ghost use Rattle.matching.specs.Definitions.Rows.{nodesOf, linksIn};
 ghost use Rattle.stability.specs.Barred.{Barred, Asked};
 
 // True only where the first n links are the join of the masters' nodes; `places` has the rows where the links' nodes are said to stand.
@@ -24,7 +24,7 @@ pub fn verify(
     ns: &[u32],
     at: &[[i16; 2]],
     cs: &[u32],
-    s: Spans,
+    s: Sorts,
     links: &[[u32; 4]],
     places: &[[u16; 2]],
     n: usize,
@@ -32,17 +32,17 @@ pub fn verify(
 ) -> bool
     requires { ⌜ Asked (now ns) (now at) (now cs) s (now links) (now places) n (now limits) ⌝ }
     ensures { λ r. ⌜ (r ≡ true → linksIn (now (links .entry)) n
-        ≡ join (nodesOn s (now (ns .entry)) (now (at .entry)) (now (cs .entry)) masterA) (nodesOn s (now (ns .entry)) (now (at .entry))
+        ≡ join (nodesOf s (now (ns .entry)) (now (at .entry)) (now (cs .entry)) masterA) (nodesOf s (now (ns .entry)) (now (at .entry))
         (now (cs .entry)) masterB)) × Barred (now (ns .entry)) (now (at .entry)) s (now (limits .exit)) ⌝ }
 {
     let mut next = [0u64; matching::sizes::ROWS];
     if !links::hold(ns, at, cs, s, links, places, n, &mut next) {
         return false;
     }
-    if passes::any(ns, at, limits, &next, s.a, s.b) {
+    if passes::any_alike(ns, at, limits, &next, s) {
         return false;
     }
-    limits::copy(s.a, &next, limits);
-    limits::copy(s.b, &next, limits);
+    limits::copy_both(s.on, &next, limits);
+    limits::copy_both(s.off, &next, limits);
     true
 }

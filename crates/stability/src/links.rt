@@ -1,6 +1,7 @@
 // What links must show row by row: their order, where their nodes stand, what they take of them.
 use super::limits;
 use matching::Range;
+use matching::Sorts;
 use matching::Spans;
 use matching::pack;
 use matching::sizes;
@@ -10,10 +11,10 @@ ghost use mathlib.Core.Bool.{true};
 ghost use lib.ListN.{length, getD};
 ghost use Rattle.matching.specs.Definitions.Pairs.{Before};
 ghost use Rattle.matching.specs.Definitions.Links.{pairOf};
-ghost use Rattle.matching.specs.Definitions.Rows.{Fit, linkOf};
+ghost use Rattle.matching.specs.Definitions.Rows.{Fits, linkOf};
 ghost use Rattle.matching.specs.Definitions.Sizes.{setRows};
-ghost use Rattle.stability.specs.Ranges.{RowOf, Ranged};
-ghost use Rattle.stability.specs.Links.{Ordered, Stands, Within, Spent, Ready, Taken, Took};
+ghost use Rattle.stability.specs.Ranges.{RowOf, Ranged, RangedSorts};
+ghost use Rattle.stability.specs.Links.{Ordered, StandsOn, Stands, Within, Spent, Ready, Taken, Took};
 ghost use Rattle.stability.specs.Limits.{Held};
 
 // Link p comes before link q.
@@ -52,10 +53,10 @@ fn has(ns: &[u32], r: Range, i: usize, n: u32) -> bool
     ns[i] == n
 }
 
-// The nodes of link l stand in rows i and j, as far apart as it says.
+// The nodes of link l stand in rows i and j of the ranges s, as far apart as it says.
 fn stands(l: [u32; 4], i: usize, j: usize, ns: &[u32], at: &[[i16; 2]], s: Spans) -> bool
     requires { ⌜ Ranged (now ns) (now at) (s .a) × Ranged (now ns) (now at) (s .b) ⌝ }
-    ensures { λ r. ⌜ (r ≡ true → Stands (now (ns .entry)) (now (at .entry)) s (linkOf l) i j) ⌝ }
+    ensures { λ r. ⌜ (r ≡ true → StandsOn (now (ns .entry)) (now (at .entry)) s (linkOf l) i j) ⌝ }
 {
     if !has(ns, s.a, i, l[0]) {
         return false;
@@ -64,6 +65,17 @@ fn stands(l: [u32; 4], i: usize, j: usize, ns: &[u32], at: &[[i16; 2]], s: Spans
         return false;
     }
     l[2] == matching::apart(at[i], at[j])
+}
+
+// The same, in rows of one sort: a master's on-curve rows stand ahead of its off-curve ones.
+fn stands_alike(l: [u32; 4], i: usize, j: usize, ns: &[u32], at: &[[i16; 2]], s: Sorts) -> bool
+    requires { ⌜ RangedSorts (now ns) (now at) s ⌝ }
+    ensures { λ r. ⌜ (r ≡ true → Stands (now (ns .entry)) (now (at .entry)) s (linkOf l) i j) ⌝ }
+{
+    if i < s.off.a.from {
+        return stands(l, i, j, ns, at, s.on);
+    }
+    stands(l, i, j, ns, at, s.off)
 }
 
 // Takes the amount m of row i, and keeps the link's key there.
@@ -92,7 +104,7 @@ fn take(
     ns: &[u32],
     at: &[[i16; 2]],
     cs: &[u32],
-    s: Spans,
+    s: Sorts,
     taken: &mut [u32],
     last: &mut [u64],
 ) -> bool
@@ -102,7 +114,7 @@ fn take(
 {
     let i = p[0] as usize;
     let j = p[1] as usize;
-    if !stands(l, i, j, ns, at, s) {
+    if !stands_alike(l, i, j, ns, at, s) {
         return false;
     }
     if !spend(l[3], pack(l[2], l[1]), i, cs, taken, last) {
@@ -119,7 +131,7 @@ fn take_all(
     ns: &[u32],
     at: &[[i16; 2]],
     cs: &[u32],
-    s: Spans,
+    s: Sorts,
     taken: &mut [u32],
     last: &mut [u64],
 ) -> bool
@@ -143,13 +155,13 @@ pub fn hold(
     ns: &[u32],
     at: &[[i16; 2]],
     cs: &[u32],
-    s: Spans,
+    s: Sorts,
     links: &[[u32; 4]],
     places: &[[u16; 2]],
     n: usize,
     last: &mut [u64],
 ) -> bool
-    requires { ⌜ Fit (now ns) (now at) (now cs) s × (n ≤ length (now links)) × (n ≤ length (now places)) × (length (now last) ≡ setRows) ⌝ }
+    requires { ⌜ Fits (now ns) (now at) (now cs) s × (n ≤ length (now links)) × (n ≤ length (now places)) × (length (now last) ≡ setRows) ⌝ }
     ensures { λ r. ⌜ (r ≡ true → Held (now (ns .entry)) (now (at .entry)) (now (cs .entry)) s (now (links .entry)) n (now (places .entry))
         (now (last .exit))) ⌝ }
 {
@@ -160,7 +172,7 @@ pub fn hold(
     if !take_all(links, places, n, ns, at, cs, s, &mut taken, last) {
         return false;
     }
-    limits::note(s.a, cs, &taken, last);
-    limits::note(s.b, cs, &taken, last);
+    limits::note_both(s.on, cs, &taken, last);
+    limits::note_both(s.off, cs, &taken, last);
     true
 }

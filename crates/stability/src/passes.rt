@@ -3,13 +3,16 @@ use super::blocking;
 use super::later;
 use super::spread::spread;
 use matching::Range;
+use matching::Sorts;
+use matching::Spans;
 use matching::sizes;
 ghost use Prim.Native.Nat.{ℕ};
 ghost use mathlib.Core.Path.{_≡_};
 ghost use mathlib.Core.Bool.{false};
 ghost use lib.ListN.{length};
+ghost use Rattle.matching.specs.Definitions.Rows.{spansOf};
 ghost use Rattle.matching.specs.Definitions.Sizes.{setRows};
-ghost use Rattle.stability.specs.Ranges.{RowOf, Ranged};
+ghost use Rattle.stability.specs.Ranges.{RowOf, Ranged, RangedSorts};
 ghost use Rattle.stability.specs.Later.{Passed, StillStable};
 
 // Some pair of a row of p that has a later limit and a row of q blocks. The other rows of p take no pair, so that blocks of them are skipped.
@@ -37,7 +40,7 @@ fn any_from(ns: &[u32], at: &[[i16; 2]], old: &[u64], new: &[u64], p: Range, q: 
 }
 
 // Some pair does. Blocks pass over more where their rows lie closer together, so most pairs are looked at by blocks of the closer range.
-pub fn any(ns: &[u32], at: &[[i16; 2]], old: &[u64], new: &[u64], p: Range, q: Range) -> bool
+fn any(ns: &[u32], at: &[[i16; 2]], old: &[u64], new: &[u64], p: Range, q: Range) -> bool
     requires { ⌜ Ranged (now ns) (now at) p × Ranged (now ns) (now at) q × (length (now old) ≡ setRows) × (length (now new) ≡ setRows) ⌝ }
     ensures { λ r. ⌜ (r ≡ false → StillStable (now (ns .entry)) (now (at .entry)) (now (old .entry)) (now (new .entry)) p q) ⌝ }
 {
@@ -45,4 +48,30 @@ pub fn any(ns: &[u32], at: &[[i16; 2]], old: &[u64], new: &[u64], p: Range, q: R
         return any_from(ns, at, old, new, q, p);
     }
     any_from(ns, at, old, new, p, q)
+}
+
+// Some pair of a sort's rows does. A sort that a master lacks has no pair.
+fn any_of(ns: &[u32], at: &[[i16; 2]], old: &[u64], new: &[u64], s: Spans) -> bool
+    requires { ⌜ Ranged (now ns) (now at) (s .a) × Ranged (now ns) (now at) (s .b) × (length (now old) ≡ setRows) × (length (now new) ≡ setRows) ⌝ }
+    ensures { λ r. ⌜ (r ≡ false → StillStable (now (ns .entry)) (now (at .entry)) (now (old .entry)) (now (new .entry)) (s .a) (s .b)) ⌝ }
+{
+    if s.a.from == s.a.to {
+        return false;
+    }
+    if s.b.from == s.b.to {
+        return false;
+    }
+    any(ns, at, old, new, s.a, s.b)
+}
+
+// Some pair of one sort does, on-curve or off-curve.
+pub fn any_alike(ns: &[u32], at: &[[i16; 2]], old: &[u64], new: &[u64], s: Sorts) -> bool
+    requires { ⌜ RangedSorts (now ns) (now at) s × (length (now old) ≡ setRows) × (length (now new) ≡ setRows) ⌝ }
+    ensures { λ r. ⌜ (r ≡ false → (t : ℕ) → StillStable (now (ns .entry)) (now (at .entry)) (now (old .entry)) (now (new .entry))
+        (spansOf s t .a) (spansOf s t .b)) ⌝ }
+{
+    if any_of(ns, at, old, new, s.on) {
+        return true;
+    }
+    any_of(ns, at, old, new, s.off)
 }

@@ -2,5 +2,5 @@
 // The limit of a row that has something left: the key of every pair is below it.
 pub const FREE: u64 = 18446744073709551615;
 
-// The most blocks of a master.
+// The most blocks of a range.
 pub const BLOCKS: usize = 16;

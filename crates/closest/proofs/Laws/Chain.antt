@@ -9,7 +9,7 @@ use lib.Dec.{eqb, ltb}
 use lib.ListN.{length, getD, set, length-set}
 use lib.Seq.{getD-set-same, getD-set-other}
 use borrow.Author.Tests.{eq-eqb, ne-eqb, lt-ltb, le-ltb}
-use Rattle.matching.specs.Definitions.Nodes.{Master, masterA, masterB}
+use Rattle.matching.specs.Definitions.Nodes.{Master, masterA, masterB, other}
 use Rattle.matching.specs.Definitions.Pairs.{Pair, Before}
 use Rattle.matching.specs.Definitions.Sizes.{half, setRows}
 use Rattle.matching.specs.Definitions.Rows.{Spanned}
@@ -17,7 +17,7 @@ use Rattle.matching.specs.Laws.Order.{before-trans}
 use Rattle.matching.specs.Laws.Earliest.{Leq, strictly, equally}
 use Rattle.closest.specs.declared.chain.Move.the-variants.{Take}
 use Rattle.closest.specs.Sizes.{chainRows}
-use Rattle.closest.specs.Rows.{Rows, Held, other, far, Faces, faces, between, Sound}
+use Rattle.closest.specs.Rows.{Rows, Held, far, Faces, faces, between, Sound}
 use Rattle.closest.specs.Nearest.{Nearest, Chosen}
 use Rattle.closest.specs.Chain.{Chain, Pushed, Decided, sides, Trimmed, kept, anew}
 use Rattle.closest.proofs.Laws.Pairs.{far-swap, faces-swap, faces-self, between-swap, same-row, not-before}

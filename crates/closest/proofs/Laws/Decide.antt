@@ -6,7 +6,7 @@ use native.Mathlib.Decide.{decLe}
 use native.Mathlib.Omega.{arith}
 use lib.IntN.{ℤ}
 use lib.ListN.{length, getD}
-use Rattle.matching.specs.Definitions.Nodes.{Master, masterA, masterB}
+use Rattle.matching.specs.Definitions.Nodes.{Master, masterA, masterB, other}
 use Rattle.matching.specs.Definitions.Columns.{Inside}
 use Rattle.matching.specs.Definitions.Sizes.{setRows, setBlocks, blockRows, numberRange}
 use Rattle.matching.specs.Definitions.Rows.{range, On, across, upward, xAt, yAt, Placed, gap}
@@ -17,7 +17,7 @@ use Rattle.closest.specs.declared.chain.Move.{Move}
 use Rattle.closest.specs.declared.chain.Move.the-variants.{Stop, Push, Take}
 use Rattle.closest.specs.declared.chain.State.{State}
 use Rattle.closest.specs.Sizes.{farKey}
-use Rattle.closest.specs.Rows.{Rows, Held, other, far, Faces, faces, between, rest}
+use Rattle.closest.specs.Rows.{Rows, Held, far, Faces, faces, between, rest}
 use Rattle.closest.specs.Live.{Lists, numberAt, rowAt, spotOf, Holds, Live}
 use Rattle.closest.specs.Blocks.{start, stop, Block, Aligned, endOf, Boxed, numberOf}
 use Rattle.closest.specs.Nearest.{apart, seen, Keyed, Guards, From, seed, block, Scanned, Partner, Chosen}

@@ -6,14 +6,14 @@ use native.Mathlib.Decide.{decLt}
 use native.Mathlib.Omega.{arith}
 use lib.ListN.{getD}
 use borrow.Author.Tests.{lt-ltb, le-ltb}
-use Rattle.matching.specs.Definitions.Nodes.{Master, masterA, masterB, each}
+use Rattle.matching.specs.Definitions.Nodes.{Master, masterA, masterB, each, other}
 use Rattle.matching.specs.Definitions.Pairs.{Pair, Before, nearer, lowerA, lowerB}
 use Rattle.matching.specs.Definitions.Sizes.{half, numberRange}
 use Rattle.matching.specs.Definitions.Rows.{On, Spanned, key}
 use Rattle.matching.specs.Laws.Sets.{gap-swap}
 use Rattle.matching.specs.Laws.Order.{before-trans, before-irrefl}
 use Rattle.matching.specs.Laws.Earliest.{Leq, strictly, equally}
-use Rattle.closest.specs.Rows.{Rows, other, far, Faces, faces, rowPair, between, Sound}
+use Rattle.closest.specs.Rows.{Rows, far, Faces, faces, rowPair, between, Sound}
 
 -- Distances are the same from either end.
 pub far-swap : (R : Rows) (i k : ℕ) → far R i k ≡ far R k i

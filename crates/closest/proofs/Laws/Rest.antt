@@ -16,16 +16,16 @@ use Rattle.matching.specs.Definitions.Pairs.{Pair, numberIn, distance, pair, pa
 use Rattle.matching.specs.Definitions.Links.{Link}
 use Rattle.matching.specs.Definitions.Join.{Left, capacities, less, lesser, taken}
 use Rattle.matching.specs.Definitions.Columns.{tabulate}
-use Rattle.matching.specs.Definitions.Sizes.{setRows, linkRows}
 use Rattle.matching.specs.Definitions.Rows.{range, On, gap, nodeIn, nodesOn, linkOf}
 use Rattle.matching.specs.Laws.Lists.{all-in}
 use Rattle.matching.specs.Laws.Left.{less-hit, less-other}
 use Rattle.matching.specs.Laws.Earliest.{Leq}
 use Rattle.matching.specs.Laws.Sorting.{sort, along, along-none, all-sort, sortedJoin}
 use Rattle.matching.specs.Laws.Columns.{tabulate-all}
-use Rattle.matching.specs.Laws.Sets.{on-length}
+use Rattle.matching.specs.Laws.Sets.{on-all}
 use Rattle.matching.specs.Laws.Sums.{all-pairs, all-nodes}
-use Rattle.matching.specs.Theorems.Join.{join-sorted, join-count}
+use Rattle.matching.specs.Theorems.Join.{join-sorted}
+use Rattle.matching.specs.Theorems.Sorts.{allPairs, pairs-alike}
 use Rattle.matching.specs.Theorems.Mutual.{putLink, mutual-first}
 use Rattle.closest.specs.declared.chain.Pick.{Pick}
 use Rattle.closest.specs.Rows.{Rows, faces, rowPair, rest, Sound}
@@ -54,11 +54,11 @@ module _ (ns : List ℕ) (at : List (List ℤ)) where
   differ-later k n d i j a b c e = d i j (omega arith) (omega arith) (omega arith) (omega arith)
 
   -- What a row has left is its node's capacity.
-  capacity-row : (ks : List ℕ) (k n i : ℕ) → Differ k n → k ≤ i → i < k + n → capacityOf (tabulate (nodeIn ns at ks) k n) (getD ns i 0) ≡ getD ks i 0
+  capacity-row : (ks : List ℕ) (k n i : ℕ) → Differ k n → k ≤ i → i < k + n → capacityOf (tabulate (nodeIn 0 ns at ks) k n) (getD ns i 0) ≡ getD ks i 0
   unfolding tabulate capacityOf
   capacity-row ks k zero i d l h = absurd (omega arith)
   capacity-row ks k (suc n) i d l h =
-      go (ℕ-discrete (getD ns k 0) (getD ns i 0)) (capacityOf (tabulate (nodeIn ns at ks) (suc k) n) (getD ns i 0)) (capacity-row ks (suc k) n i (differ-later k n d))
+      go (ℕ-discrete (getD ns k 0) (getD ns i 0)) (capacityOf (tabulate (nodeIn 0 ns at ks) (suc k) n) (getD ns i 0)) (capacity-row ks (suc k) n i (differ-later k n d))
     where
       go : Dec (getD ns k 0 ≡ getD ns i 0) → (z : ℕ) → (suc k ≤ i → i < suc k + n → z ≡ getD ks i 0) → cond (eqb (getD ns k 0) (getD ns i 0)) (getD ks k 0) z ≡ getD ks i 0
       go (yes e) z ih = rw (eq-eqb (getD ns k 0) (getD ns i 0) e) (ap (λ (j : ℕ). getD ks j 0) (d k i (omega arith) (omega arith) l h e))
@@ -68,7 +68,7 @@ module _ (ns : List ℕ) (at : List (List ℤ)) where
 
   module _ (ks js : List ℕ) (i : ℕ) where
     capacity-other : (k n x : ℕ) → ((q : ℕ) → k ≤ q → q < k + n → (q ≡ i → ⊥) → getD js q 0 ≡ getD ks q 0) → (x ≡ getD ns i 0 → ⊥)
-        → capacityOf (tabulate (nodeIn ns at js) k n) x ≡ capacityOf (tabulate (nodeIn ns at ks) k n) x
+        → capacityOf (tabulate (nodeIn 0 ns at js) k n) x ≡ capacityOf (tabulate (nodeIn 0 ns at ks) k n) x
     unfolding tabulate capacityOf
     capacity-other k zero x o d = refl
     capacity-other k (suc n) x o d = go (ℕ-discrete (getD ns k 0) x) (capacity-other (suc k) n x (λ q a b. o q (omega arith) (omega arith)) d)
@@ -79,14 +79,14 @@ module _ (ns : List ℕ) (at : List (List ℤ)) where
 
     -- Where row i alone has m less, its node has m less.
     capacity-less : (k n m : ℕ) → Differ k n → k ≤ i → i < k + n → ((q : ℕ) → k ≤ q → q < k + n → (q ≡ i → ⊥) → getD js q 0 ≡ getD ks q 0)
-        → getD js i 0 ≡ getD ks i 0 - m → capacityOf (tabulate (nodeIn ns at js) k n) ≡ less (capacityOf (tabulate (nodeIn ns at ks) k n)) (getD ns i 0) m
+        → getD js i 0 ≡ getD ks i 0 - m → capacityOf (tabulate (nodeIn 0 ns at js) k n) ≡ less (capacityOf (tabulate (nodeIn 0 ns at ks) k n)) (getD ns i 0) m
     capacity-less k n m d l h o e = fun-ext (λ x. go x (ℕ-discrete x (getD ns i 0)))
       where
         before : ℕ → ℕ
-        before = capacityOf (tabulate (nodeIn ns at ks) k n)
+        before = capacityOf (tabulate (nodeIn 0 ns at ks) k n)
 
         after : ℕ → ℕ
-        after = capacityOf (tabulate (nodeIn ns at js) k n)
+        after = capacityOf (tabulate (nodeIn 0 ns at js) k n)
 
         go : (x : ℕ) → Dec (x ≡ getD ns i 0) → after x ≡ less before (getD ns i 0) m x
         go x (yes f) = omega (arith, ap after f, ap before f, capacity-row js k n i d l h, capacity-row ks k n i d l h, less-hit before (getD ns i 0) m x f)
@@ -94,18 +94,18 @@ module _ (ns : List ℕ) (at : List (List ℤ)) where
 
   -- The pairs do not depend on what is left.
   same-pairs : (ks js : List ℕ) (k m l n : ℕ)
-      → pairs (tabulate (nodeIn ns at ks) k m) (tabulate (nodeIn ns at ks) l n) ≡ pairs (tabulate (nodeIn ns at js) k m) (tabulate (nodeIn ns at js) l n)
-  unfolding tabulate pairs pair distance
+      → allPairs (tabulate (nodeIn 0 ns at ks) k m) (tabulate (nodeIn 0 ns at ks) l n) ≡ allPairs (tabulate (nodeIn 0 ns at js) k m) (tabulate (nodeIn 0 ns at js) l n)
+  unfolding tabulate allPairs pair distance
   same-pairs ks js k zero l n = refl
   same-pairs ks js k (suc m) l n = ap₂ _++_ (row l n) (same-pairs ks js (suc k) m l n)
     where
-      row : (l n : ℕ) → map (pair (nodeIn ns at ks k)) (tabulate (nodeIn ns at ks) l n) ≡ map (pair (nodeIn ns at js k)) (tabulate (nodeIn ns at js) l n)
+      row : (l n : ℕ) → map (pair (nodeIn 0 ns at ks k)) (tabulate (nodeIn 0 ns at ks) l n) ≡ map (pair (nodeIn 0 ns at js k)) (tabulate (nodeIn 0 ns at js) l n)
       row l zero = refl
-      row l (suc n) = ap (λ (K : List Pair). pair (nodeIn ns at ks k) (nodeIn ns at ks l) ∷ K) (row (suc l) n)
+      row l (suc n) = ap (λ (K : List Pair). pair (nodeIn 0 ns at ks k) (nodeIn 0 ns at ks l) ∷ K) (row (suc l) n)
 
 module _ (R : Rows) (left : List ℕ) (v : Sound R left) where
   abbrev nodes : Master → List Node
-  nodes = nodesOn (R .spans) (R .ns) (R .at) left
+  nodes = nodesOn 0 (R .spans) (R .ns) (R .at) left
 
   abbrev P : List Pair
   P = pairs (nodes masterA) (nodes masterB)
@@ -142,20 +142,27 @@ module _ (R : Rows) (left : List ℕ) (v : Sound R left) where
   all-rows : (Q : Pair → Type 0) → ((i j : ℕ) → On (R .spans) masterA i → On (R .spans) masterB j → Q (rowPair R i j)) → All Q P
   unfolding pair distance gap nodesOn
   all-rows Q h = all-pairs Q (nodes masterA) (nodes masterB)
-      (tabulate-all (λ x. All (λ y. Q (pair x y)) (nodes masterB)) (nodeIn (R .ns) (R .at) left) (first masterA) (count masterA) (λ i a b.
-      tabulate-all (λ y. Q (pair (nodeIn (R .ns) (R .at) left i) y)) (nodeIn (R .ns) (R .at) left) (first masterB) (count masterB) (λ j c d.
+      (tabulate-all (λ x. All (λ y. x .sort ≡ y .sort → Q (pair x y)) (nodes masterB)) (nodeIn 0 (R .ns) (R .at) left) (first masterA) (count masterA) (λ i a b.
+      tabulate-all (λ y. 0 ≡ y .sort → Q (pair (nodeIn 0 (R .ns) (R .at) left i) y)) (nodeIn 0 (R .ns) (R .at) left) (first masterB) (count masterB) (λ j c d e.
       h i j (a, low masterA i b) (c, low masterB j d))))
 
   row-among : (i j : ℕ) → On (R .spans) masterA i → On (R .spans) masterB j → List·Memᴰ (rowPair R i j) P
   unfolding pair distance gap nodesOn
   row-among i j hi hj =
-      tabulate-at (λ y. List·Memᴰ (pair (nodeIn (R .ns) (R .at) left i) y) P) (nodeIn (R .ns) (R .at) left) (first masterB) (count masterB) j
-      (tabulate-at (λ x. All (λ y. List·Memᴰ (pair x y) P) (nodes masterB)) (nodeIn (R .ns) (R .at) left) (first masterA) (count masterA) i
-      (all-nodes (λ q. List·Memᴰ q P) (nodes masterA) (nodes masterB) (all-in P (λ q m. m))) (hi .0) (high masterA i hi)) (hj .0) (high masterB j hj)
+      tabulate-at (λ y. 0 ≡ y .sort → List·Memᴰ (pair (nodeIn 0 (R .ns) (R .at) left i) y) P) (nodeIn 0 (R .ns) (R .at) left) (first masterB) (count masterB) j
+      (tabulate-at (λ x. All (λ y. x .sort ≡ y .sort → List·Memᴰ (pair x y) P) (nodes masterB)) (nodeIn 0 (R .ns) (R .at) left) (first masterA) (count masterA) i
+      (all-nodes (λ q. List·Memᴰ q P) (nodes masterA) (nodes masterB) (all-in P (λ q m. m))) (hi .0) (high masterA i hi)) (hj .0) (high masterB j hj) refl
 
-  same-nodes : (js : List ℕ) → P ≡ pairs (nodesOn (R .spans) (R .ns) (R .at) js masterA) (nodesOn (R .spans) (R .ns) (R .at) js masterB)
+  -- All nodes are of one sort.
+  alike : (js : List ℕ) (m : Master) → All (λ w. w .sort ≡ 0) (nodesOn 0 (R .spans) (R .ns) (R .at) js m)
+  alike js m = on-all 0 (R .spans) (R .ns) (R .at) js m (λ w. w .sort ≡ 0) (λ k h. refl)
+
+  same-nodes : (js : List ℕ) → P ≡ pairs (nodesOn 0 (R .spans) (R .ns) (R .at) js masterA) (nodesOn 0 (R .spans) (R .ns) (R .at) js masterB)
   unfolding nodesOn
-  same-nodes js = same-pairs (R .ns) (R .at) left js (first masterA) (count masterA) (first masterB) (count masterB)
+  same-nodes js =
+      pairs-alike 0 (nodes masterA) (nodes masterB) (alike left masterA) (alike left masterB)
+      ∙ same-pairs (R .ns) (R .at) left js (first masterA) (count masterA) (first masterB) (count masterB)
+      ∙ sym (pairs-alike 0 (nodesOn 0 (R .spans) (R .ns) (R .at) js masterA) (nodesOn 0 (R .spans) (R .ns) (R .at) js masterB) (alike js masterA) (alike js masterB))
 
   -- No pair can be taken: no link is left.
   pub rest-none : ((i j : ℕ) → On (R .spans) masterA i → On (R .spans) masterB j → min (getD left i 0) (getD left j 0) ≡ 0) → rest R left ≡ []
@@ -163,18 +170,6 @@ module _ (R : Rows) (left : List ℕ) (v : Sound R left) where
   rest-none h =
       join-sorted (nodes masterA) (nodes masterB)
       ∙ along-none (sort P) C (all-sort (λ q. lesser C q ≡ 0) P (all-rows (λ q. lesser C q ≡ 0) (λ i j hi hj. lesser-is i j hi hj ∙ h i j hi hj)))
-
-  pub rest-count : length (rest R left) ≤ linkRows
-  unfolding rest
-  rest-count = omega (
-    arith,
-    join-count (nodes masterA) (nodes masterB),
-    on-length (R .spans) (R .ns) (R .at) left masterA,
-    on-length (R .spans) (R .ns) (R .at) left masterB,
-    v .spans .below,
-    v .spans .above,
-    v .spans .end,
-  )
 
   -- The rows of a pair lose m.
   module _ (p : Pick) (hi : On (R .spans) masterA (p .a)) (hj : On (R .spans) masterB (p .b)) (m : ℕ) where
@@ -202,7 +197,7 @@ module _ (R : Rows) (left : List ℕ) (v : Sound R left) where
         go (no e) (no f) = omega (arith, off-rows q e f)
 
     lost : (d : ℕ) (s : Master) → taken C (record { distance = d; a = getD (R .ns) i 0; b = getD (R .ns) j 0 }) m s
-        ≡ capacities (nodesOn (R .spans) (R .ns) (R .at) (lose left p m) masterA) (nodesOn (R .spans) (R .ns) (R .at) (lose left p m) masterB) s
+        ≡ capacities (nodesOn 0 (R .spans) (R .ns) (R .at) (lose left p m) masterA) (nodesOn 0 (R .spans) (R .ns) (R .at) (lose left p m) masterB) s
     unfolding taken capacities nodesOn
     lost d masterA = sym (capacity-less (R .ns) (R .at) left (lose left p m) i (first masterA) (count masterA) m (differ masterA) (hi .0) (high masterA i hi)
         (λ q a b e. off-rows q e (λ f. omega (arith, low masterA q b, v .spans .below, v .spans .above))) (at-row masterA))
@@ -234,4 +229,4 @@ module _ (R : Rows) (left : List ℕ) (v : Sound R left) where
         is = lesser-is (p .a) (p .b) hi hj
 
         new : Master → List Node
-        new = nodesOn (R .spans) (R .ns) (R .at) (lose left p (amount left p))
+        new = nodesOn 0 (R .spans) (R .ns) (R .at) (lose left p (amount left p))

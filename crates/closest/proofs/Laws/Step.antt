@@ -9,7 +9,7 @@ use lib.ListN.{length, getD, set, length-set}
 use lib.Seq.{getD-set-other}
 use Rattle.matching.specs.Definitions.Nodes.{masterA, masterB}
 use Rattle.matching.specs.Definitions.Links.{Link}
-use Rattle.matching.specs.Definitions.Sizes.{half, setRows, linkRows}
+use Rattle.matching.specs.Definitions.Sizes.{half, setRows}
 use Rattle.matching.specs.Definitions.Rows.{On, linkOf, linksIn}
 use Rattle.matching.specs.Laws.Sets.{link-more}
 use Rattle.matching.specs.Theorems.Mutual.{putLink, put-length, puts, puts-snoc}
@@ -20,9 +20,9 @@ use Rattle.closest.specs.Rows.{Rows, Held, Faces, faces, rest, Sound}
 use Rattle.closest.specs.Live.{Lists}
 use Rattle.closest.specs.Blocks.{leastOf, Kept, Fenced, Spent}
 use Rattle.closest.specs.Order.{Table}
-use Rattle.closest.specs.Chain.{Pushed, Mutually, Trimmed, Takes, amount, lose, linkRow, Taken, bit, whole, Ready, Good, Stepped}
+use Rattle.closest.specs.Chain.{Pushed, Mutually, Trimmed, Takes, amount, lose, linkRow, Taken, bit, whole, Ready, Room, Good, Stepped}
 use Rattle.closest.proofs.Laws.Spans.{held}
-use Rattle.closest.proofs.Laws.Rest.{rest-count, off-rows, lose-le, rest-take}
+use Rattle.closest.proofs.Laws.Rest.{off-rows, lose-le, rest-take}
 use Rattle.closest.proofs.Laws.Blocks.{fenced-again}
 use Rattle.closest.proofs.Laws.Chain.{room, short, push, cut}
 
@@ -63,7 +63,7 @@ module _ (R : Rows) (left : List ℕ) (Q : Lists) (E : List (List ℕ)) (X : Lis
 
   pub stepped-stop : rest R left ≡ [] → Stepped R X left L s left Q E chain L (record { depth = s .depth; links = s .links; more = false })
   stepped-stop e = record {
-    good = record { ready = record { sound = r .sound; kept = r .kept; fenced = r .fenced; path = r .path }; room = g .room; count = g .count };
+    good = record { ready = record { sound = r .sound; kept = r .kept; fenced = r .fenced; path = r .path }; room = g .room };
     same = refl;
     falls = omega (arith, ap bit on);
     ends = λ q. e;
@@ -78,7 +78,6 @@ module _ (R : Rows) (left : List ℕ) (Q : Lists) (E : List (List ℕ)) (X : Lis
     good = record {
       ready = record { sound = r .sound; kept = r .kept; fenced = r .fenced; path = push R left (r .sound) chain (s .depth) (r .path) w p };
       room = g .room;
-      count = g .count;
     };
     same = refl;
     falls = omega (arith, depth-low, r .path .room);
@@ -112,7 +111,7 @@ module _ (R : Rows) (left : List ℕ) (Q : Lists) (E : List (List ℕ)) (X : Lis
     fewer = ap length first ∙ put-length link (rest R new)
 
     pub has-row : s .links < length L
-    has-row = omega (arith, fewer, g .count, g .room)
+    has-row = omega (arith, fewer, g .room .most, g .room .size)
 
     pub may-take : Takes R left p
     may-take = record { on-a = sides .0; on-b = sides .1; some-a = m .onto-i .alive; some-b = m .onto-j .alive }
@@ -135,8 +134,7 @@ module _ (R : Rows) (left : List ℕ) (Q : Lists) (E : List (List ℕ)) (X : Lis
           fenced = f;
           path = cut R left (r .sound) chain (s .depth) (r .path) new chain' n deep lower (λ h l. same-off (getD chain h 0) (m .not-i h l) (m .not-j h l)) t;
         };
-        room = simp length-set (g .room);
-        count = omega (arith, fewer, g .count);
+        room = record { size = simp length-set (g .room .size); most = omega (arith, fewer, g .room .most) };
       };
       same =
           ap (λ (K : List Link). puts K (rest R new)) (link-more L (s .links) (linkRow R p (amount left p)) has-row)
@@ -151,10 +149,10 @@ module _ (R : Rows) (left : List ℕ) (Q : Lists) (E : List (List ℕ)) (X : Lis
         → Stepped R X left L s left' O F chain' L' (record { depth = n; links = s .links + 1; more = s .more })
     stepped-take left' O F chain' L' n k t = rw (k .lefts, k .links) (take n O F chain' (rw (k .lefts) at t) (rw (k .lefts) at (k .kept)) (fenced-again R E F X (k .leasts) (r .fenced)))
 
--- A run begins with an empty chain and no link.
-pub good-start : (R : Rows) (left : List ℕ) (Q : Lists) (E : List (List ℕ)) (X : List (List ℤ)) (chain : List ℕ) (L : Table) → Sound R left → Kept R left Q E → Fenced R E X → length chain ≡ chainRows → length L ≡ linkRows
-    → Good R left Q E X chain L (record { depth = 0; links = 0; more = true })
-good-start R left Q E X chain L v k f e w = record {
+-- A run begins with an empty chain and the links that are there.
+pub good-start : (R : Rows) (left : List ℕ) (Q : Lists) (E : List (List ℕ)) (X : List (List ℤ)) (chain : List ℕ) (L : Table) (n : ℕ) → Sound R left → Kept R left Q E → Fenced R E X → length chain ≡ chainRows → Room R left L n
+    → Good R left Q E X chain L (record { depth = 0; links = n; more = true })
+good-start R left Q E X chain L n v k f e w = record {
   ready = record {
     sound = v;
     kept = k;
@@ -162,5 +160,4 @@ good-start R left Q E X chain L v k f e w = record {
     path = short R left chain 0 (omega arith) e (λ h l. absurd (omega arith)) (λ h l. absurd (omega arith));
   };
   room = w;
-  count = omega (arith, rest-count R left v);
 }

@@ -6,10 +6,11 @@ use lib.IntN.{ℤ, pos}
 use lib.ListN.{replicate, length-replicate, getD-replicate}
 use lib.Seq.{length-take-le}
 use Rattle.matching.specs.declared.Spans.{Spans}
+use Rattle.matching.specs.declared.Sorts.{Sorts}
 use Rattle.matching.specs.Definitions.Nodes.{masterA, masterB}
-use Rattle.matching.specs.Definitions.Rows.{Fit}
+use Rattle.matching.specs.Definitions.Rows.{Fit, Fits}
 use Rattle.matching.specs.Definitions.Sizes.{setBlocks}
-use Rattle.repair.specs.State.{Both, Aligned, Boxed}
+use Rattle.repair.specs.State.{Both, Each, Boxed}
 use native.Mathlib.Omega.{arith}
 use borrow.Author.Needs.{needs}
 use Rattle.repair.proofs.repair.Statement.{statement}
@@ -23,6 +24,7 @@ both f = record {
     positions = f .positions;
     order = f .spans .order-a;
     end = omega (arith, f .spans);
+    begins = f .spans .block-a;
     inside = λ k l m. f .inside masterA k (l, m);
   };
   b = record {
@@ -30,12 +32,13 @@ both f = record {
     positions = f .positions;
     order = f .spans .order-b;
     end = f .spans .end;
+    begins = f .spans .block-b;
     inside = λ k l m. f .inside masterB k (l, m);
   };
 }
 
-aligned : {ns : List ℕ} {at : List (List ℤ)} {cs : List ℕ} {s : Spans} → Fit ns at cs s → Aligned s
-aligned f = record { a = f .spans .block-a; b = f .spans .block-b }
+each : {ns : List ℕ} {at : List (List ℤ)} {cs : List ℕ} {s : Sorts} → Fits ns at cs s → Each ns at s
+each f = record { numbers = f .fit 0 .numbers; both = λ t. both (f .fit t) }
 
 -- Boxes of nothing but zeros are inside.
 abbrev zeros : List ℤ
@@ -48,13 +51,18 @@ boxed = record {
 }
 
 prepare-requires : tie.Need-prepare-requires
-prepare-requires c κs = let f = c .before .before .before .before .before .pre .0 in (both f, aligned f, f .capacities, search needs, boxed)
+prepare-requires c κs = let f = c .before .before .before .before .before .pre .0 in (each f, f .fit 0 .capacities, search needs, boxed)
+
+edited-requires : tie.Need-edited-requires
+edited-requires c κs =
+    let e = each (c .before .before .before .before .before .before .before .before .before .pre .0) in
+    (e .both 0 .a .end, e .both 0 .b .end, e .both 1 .a .end, e .both 1 .b .end, e .numbers)
 
 start-requires : tie.Need-start-requires
 start-requires c κs =
     let r = c .before .before .before .before .before .before .before .before in
     let f = r .before .before .before .before .before .before .pre .0 in
-    (both f, search needs, r .prepare .ensures, search needs)
+    (each f, search needs, r .prepare .ensures, search needs)
 
 slice-aggregate-all : tie.Need-slice-aggregate-all
 slice-aggregate-all c =
@@ -69,7 +77,7 @@ all-requires c κs =
     let p = s .pre in
     let e = length-take-le (s .args .n) (s .args .old .now) (omega (arith, p .1)) in
     let k = t .start .kept in (
-      (t .start .ensures, both (p .0), omega (arith, e, p .1), omega (arith, e, p .1)),
+      (t .start .ensures, each (p .0), omega (arith, e, p .1), omega (arith, e, p .1)),
       (omega (arith, k, r .prepare .kept), r .prepare .ensures, omega (arith, k), p .2),
     )
 
@@ -88,7 +96,7 @@ repair-spec =
     (λ c. search needs)
     (λ c. search needs)
     prepare-requires
-    (λ c κs. search needs)
+    edited-requires
     (λ c. search needs)
     (λ c. search needs)
     (λ c. search needs)

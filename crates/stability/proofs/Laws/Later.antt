@@ -1,20 +1,21 @@
 -- Rows that have no later limit than before do not come to block. Assumes nothing.
-use Prim.Native.Nat.{ℕ}
+use Prim.Native.Nat.{ℕ, zero, suc}
 use mathlib.Core.Path.{_≡_, _∙_}
 use mathlib.Core.List.{List}
 use native.Mathlib.Omega.{arith}
 use lib.IntN.{ℤ}
 use lib.ListN.{length, getD}
 use Rattle.matching.specs.declared.Range.{Range}
-use Rattle.matching.specs.declared.Spans.{Spans}
-use Rattle.matching.specs.Definitions.Rows.{Spanned}
+use Rattle.matching.specs.declared.Sorts.{Sorts}
+use Rattle.matching.specs.Definitions.Nodes.{masterA, masterB}
+use Rattle.matching.specs.Definitions.Rows.{spansOf}
 use Rattle.matching.specs.Definitions.Sizes.{setRows}
 use Rattle.matching.specs.Laws.Sets.{gap-swap}
-use Rattle.stability.specs.Ranges.{RowOf, Filled}
+use Rattle.stability.specs.Ranges.{RowOf, OfSorts, Filled}
 use Rattle.stability.specs.Blocking.{Blocking, Stable}
 use Rattle.stability.specs.Later.{Later, sooner, later, Moved, moved, none, Passed, kept, stable, StillStable}
 use Rattle.stability.specs.Barred.{Barred}
-use Rattle.stability.proofs.Laws.Ranges.{on-one}
+use Rattle.stability.proofs.Laws.Ranges.{of-sorts}
 
 module _ (ns : List ℕ) (at : List (List ℤ)) where
   -- A pair blocks seen from either row.
@@ -30,7 +31,7 @@ module _ (ns : List ℕ) (at : List (List ℤ)) where
 
     module _ (p q : Range) where
       -- What a pass over p's rows that have a later limit tells, where e has the limits of these.
-      pub passed : (e₀ e : List ℕ) → Filled p (λ i l. Later (getD old i 0) (getD new i 0) l) e₀ e → Stable ns at e new p q → (i j : ℕ) → RowOf p i → RowOf q j → Passed ns at old new i j
+      pub passed : (e₀ e : List ℕ) → Filled (RowOf p) (λ i _ l. Later (getD old i 0) (getD new i 0) l) e₀ e → Stable ns at e new p q → (i j : ℕ) → RowOf p i → RowOf q j → Passed ns at old new i j
       passed e₀ e f s i j h g = go (f .rows i h)
         where
           go : Later (getD old i 0) (getD new i 0) (getD e i 0) → Passed ns at old new i j
@@ -54,14 +55,20 @@ module _ (ns : List ℕ) (at : List (List ℤ)) where
       pub still-swap : StillStable ns at old new p q → StillStable ns at old new q p
       still-swap h j i g f s b = h i j f g (λ c. s (swap old i j c)) (swap new j i b)
 
-    -- The new limits bar every pair,
-    pub still-stable : (s : Spans) → Barred ns at s old → StillStable ns at old new (s .a) (s .b) → Stable ns at new new (s .a) (s .b)
-    still-stable s b h i j f g = h i j f g (b .stable i j f g)
+    -- The pairs of each sort.
+    pub still-sorts : (S : Sorts) → StillStable ns at old new (S .on .a) (S .on .b) → StillStable ns at old new (S .off .a) (S .off .b)
+        → (t : ℕ) → StillStable ns at old new (spansOf S t .a) (spansOf S t .b)
+    still-sorts S on off zero = on
+    still-sorts S on off (suc t) = off
 
-    -- and so do limits to which the masters' are copied, A's first.
-    pub barred-copied : (s : Spans) (K K' : List ℕ) → Spanned s → length old ≡ setRows → Stable ns at new new (s .a) (s .b)
-        → Filled (s .a) (λ i l. l ≡ getD new i 0) old K → Filled (s .b) (λ i l. l ≡ getD new i 0) K K' → Barred ns at s K'
-    barred-copied s K K' o r h a b = record {
-      room = b .room ∙ a .room ∙ r;
-      stable = λ i j f g. rw (b .others i (on-one o i f), a .rows i f, b .rows j g) (h i j f g);
+    -- The new limits bar every pair of a sort,
+    pub still-stable : (S : Sorts) → Barred ns at S old → ((t : ℕ) → StillStable ns at old new (spansOf S t .a) (spansOf S t .b)) → (t : ℕ) → Stable ns at new new (spansOf S t .a) (spansOf S t .b)
+    still-stable S b h t i j f g = h t i j f g (b .stable t i j f g)
+
+    -- and so do limits to which all rows' are copied.
+    pub barred-copied : (S : Sorts) (K : List ℕ) → length old ≡ setRows → ((t : ℕ) → Stable ns at new new (spansOf S t .a) (spansOf S t .b))
+        → Filled (OfSorts S) (λ i _ l. l ≡ getD new i 0) old K → Barred ns at S K
+    barred-copied S K r h a = record {
+      room = a .room ∙ r;
+      stable = λ t i j f g. rw (a .rows i (of-sorts S t masterA i f), a .rows j (of-sorts S t masterB j g)) (h t i j f g);
     }

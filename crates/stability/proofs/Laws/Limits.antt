@@ -5,30 +5,26 @@ use Prim.Native.Nat.{ℕ}
 use native.Mathlib.Omega.{arith}
 use lib.IntN.{ℤ}
 use lib.ListN.{length, getD}
-use Rattle.matching.specs.declared.Spans.{Spans}
-use Rattle.matching.specs.Definitions.Nodes.{Master, masterA, masterB}
-use Rattle.matching.specs.Definitions.Rows.{Fit, On, linkIn}
-use Rattle.stability.specs.Ranges.{Filled}
+use Rattle.matching.specs.declared.Sorts.{Sorts}
+use Rattle.matching.specs.Definitions.Nodes.{Master}
+use Rattle.matching.specs.Definitions.Rows.{spansOf, On, linkIn}
+use Rattle.stability.specs.Ranges.{OfSorts, Filled}
 use Rattle.stability.specs.Links.{Ordered, keyOf, Took}
 use Rattle.stability.specs.Limits.{Limit, full, spare, Limited, limited, unlimited, Held}
-use Rattle.stability.proofs.Laws.Ranges.{on-one}
+use Rattle.stability.proofs.Laws.Ranges.{of-sorts}
 
--- The limits of A's rows are noted, then those of B's.
-pub held : (ns : List ℕ) (at : List (List ℤ)) (cs : List ℕ) (s : Spans) (L : List (List ℕ)) (n : ℕ) (P : List (List ℕ)) (taken last K K' : List ℕ) → Fit ns at cs s → Ordered L n → Took ns at cs s L P n taken last
-    → Filled (s .a) (λ i l. Limit (getD cs i 0) (getD taken i 0) (getD last i 0) l) last K → Filled (s .b) (λ i l. Limit (getD cs i 0) (getD taken i 0) (getD K i 0) l) K K' → Held ns at cs s L n P K'
-held ns at cs s L n P taken last K K' f o t a b = record {
-  room = b .room ∙ a .room ∙ t .room .1;
+-- The limits of all rows are noted.
+pub held : (ns : List ℕ) (at : List (List ℤ)) (cs : List ℕ) (S : Sorts) (L : List (List ℕ)) (n : ℕ) (P : List (List ℕ)) (taken last K : List ℕ)
+    → Ordered L n → Took ns at cs S L P n taken last → Filled (OfSorts S) (λ i k l. Limit (getD cs i 0) (getD taken i 0) k l) last K → Held ns at cs S L n P K
+held ns at cs S L n P taken last K o t a = record {
+  room = a .room ∙ t .room .1;
   order = o;
   stands = t .stands;
   some = t .some;
-  within = λ m i h. rw (← t .side m .sums i h) (t .within i);
-  limits = limits;
+  within = λ u m i h. rw (← t .side m .sums u i h) (t .within i);
+  limits = λ u m i h. one u m i h (a .rows i (of-sorts S u m i h));
 }
   where
-    one : (m : Master) (i : ℕ) → On s m i → Limit (getD cs i 0) (getD taken i 0) (getD last i 0) (getD K' i 0) → Limited ns at cs s L n m i (getD K' i 0)
-    one m i h (full e l) = limited (record { all = sym (t .side m .sums i h) ∙ e; keys = λ k z g. rw l (t .side m .keys k z i h g) })
-    one m i h (spare e) = unlimited e
-
-    limits : (m : Master) (i : ℕ) → On s m i → Limited ns at cs s L n m i (getD K' i 0)
-    limits masterA i h = one masterA i h (rw (b .others i (on-one (f .spans) i h)) (a .rows i h))
-    limits masterB i h = one masterB i h (rw (a .others i (λ g. on-one (f .spans) i g h)) at (b .rows i h))
+    one : (u : ℕ) (m : Master) (i : ℕ) → On (spansOf S u) m i → Limit (getD cs i 0) (getD taken i 0) (getD last i 0) (getD K i 0) → Limited ns at cs S L n m i (getD K i 0)
+    one u m i h (full e l) = limited (record { all = sym (t .side m .sums u i h) ∙ e; keys = λ k z g. rw l (t .side m .keys k z u i h g) })
+    one u m i h (spare e) = unlimited e

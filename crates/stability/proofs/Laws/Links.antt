@@ -13,18 +13,18 @@ use lib.Dec.{eqb}
 use lib.IntN.{ℤ}
 use lib.ListN.{length, getD, set, replicate, length-set}
 use lib.Seq.{getD-set-same, getD-set-other}
-use Rattle.matching.specs.declared.Spans.{Spans}
+use Rattle.matching.specs.declared.Sorts.{Sorts}
 use Rattle.matching.specs.Definitions.Lists.{sumOver}
 use Rattle.matching.specs.Definitions.Nodes.{Master, masterA, masterB}
 use Rattle.matching.specs.Definitions.Pairs.{numberIn, Before}
 use Rattle.matching.specs.Definitions.Links.{Link, pairOf, used, Increasing}
 use Rattle.matching.specs.Definitions.Columns.{tabulate}
-use Rattle.matching.specs.Definitions.Rows.{Fit, On, linkIn, linksIn}
+use Rattle.matching.specs.Definitions.Rows.{Fits, spansOf, On, linkIn, linksIn}
 use Rattle.matching.specs.Laws.Columns.{tabulate-all, tabulate-snoc}
 use Rattle.matching.specs.Laws.Order.{before-trans}
 use Rattle.matching.specs.Laws.Sums.{sum-append}
 use Rattle.stability.specs.Links.{Ordered, keyOf, Within, Spent, Ready, Taken, Side, Took}
-use Rattle.stability.proofs.Laws.Ranges.{on-one}
+use Rattle.stability.proofs.Laws.Ranges.{on-one, fits-distinct, in-set}
 
 pub ordered-more : (L : List (List ℕ)) (k : ℕ) → 1 ≤ k → Ordered L k → Before (pairOf (linkIn L (k - 1))) (pairOf (linkIn L k)) → Ordered L (k + 1)
 ordered-more L k l h b i g = go (ℕ-discrete (i + 1) k)
@@ -88,66 +88,68 @@ within-more cs m k i taken last taken' last' l w s j = rw (s .amount) (go (ℕ-d
     go (yes e) = rw (e, getD-set-same taken i (getD taken i 0 + m) 0 l) (s .fits)
     go (no e) = rw (getD-set-other taken i j (getD taken i 0 + m) 0 e) (w j)
 
-module _ (ns cs : List ℕ) (s : Spans) (L : List (List ℕ)) where
-  side-none : (taken last : List ℕ) → ((i : ℕ) → getD taken i 0 ≡ 0) → (m : Master) → Side ns s L 0 taken last m
+module _ (ns cs : List ℕ) (S : Sorts) (L : List (List ℕ)) where
+  side-none : (taken last : List ℕ) → ((i : ℕ) → getD taken i 0 ≡ 0) → (m : Master) → Side ns S L 0 taken last m
   unfolding used linksIn tabulate sumOver
-  side-none taken last z m = record { sums = λ i h. z i; keys = λ k h. absurd (omega arith) }
+  side-none taken last z m = record { sums = λ u i h. z i; keys = λ k h. absurd (omega arith) }
 
   -- What is taken of another row.
-  side-other : (n a k i : ℕ) (taken last taken' last' : List ℕ) (m : Master) → (On s m i → ⊥) → Side ns s L n taken last m → Spent cs a k i taken last taken' last' → Side ns s L n taken' last' m
+  side-other : (n a k i : ℕ) (taken last taken' last' : List ℕ) (m : Master) → ((u : ℕ) → On (spansOf S u) m i → ⊥) → Side ns S L n taken last m
+      → Spent cs a k i taken last taken' last' → Side ns S L n taken' last' m
   side-other n a k i taken last taken' last' m off h t = record {
-    sums = λ j g. rw (t .amount, getD-set-other taken i j (getD taken i 0 + a) 0 (λ e. off (rw e at g))) (h .sums j g);
-    keys = λ z l j g e. rw (t .kept, getD-set-other last i j k 0 (λ f. off (rw f at g))) (h .keys z l j g e);
+    sums = λ u j g. rw (t .amount, getD-set-other taken i j (getD taken i 0 + a) 0 (λ e. off u (rw e at g))) (h .sums u j g);
+    keys = λ z l u j g e. rw (t .kept, getD-set-other last i j k 0 (λ f. off u (rw f at g))) (h .keys z l u j g e);
   }
 
   -- Link k is taken of row i.
-  module _ (k i : ℕ) (taken last taken' last' : List ℕ) (m : Master) (distinct : (p q : ℕ) → On s m p → On s m q → getD ns p 0 ≡ getD ns q 0 → p ≡ q)
-      (on : On s m i) (here : getD ns i 0 ≡ numberIn m (pairOf (linkIn L k))) (room-t : i < length taken) (room-l : i < length last)
-      (h : Side ns s L k taken last m) (t : Spent cs (linkIn L k .amount) (keyOf m (linkIn L k)) i taken last taken' last') where
-    sums-more : (j : ℕ) → On s m j → getD taken' j 0 ≡ used m (linksIn L (k + 1)) (getD ns j 0)
-    sums-more j g = rw (used-more L m k (getD ns j 0), t .amount) (go (ℕ-discrete j i))
+  module _ (k i : ℕ) (taken last taken' last' : List ℕ) (m : Master)
+      (distinct : (u v p q : ℕ) → On (spansOf S u) m p → On (spansOf S v) m q → getD ns p 0 ≡ getD ns q 0 → p ≡ q)
+      (sort : ℕ) (on : On (spansOf S sort) m i) (here : getD ns i 0 ≡ numberIn m (pairOf (linkIn L k))) (room-t : i < length taken) (room-l : i < length last)
+      (h : Side ns S L k taken last m) (t : Spent cs (linkIn L k .amount) (keyOf m (linkIn L k)) i taken last taken' last') where
+    sums-more : (u j : ℕ) → On (spansOf S u) m j → getD taken' j 0 ≡ used m (linksIn L (k + 1)) (getD ns j 0)
+    sums-more u j g = rw (used-more L m k (getD ns j 0), t .amount) (go (ℕ-discrete j i))
       where
         go : Dec (j ≡ i) → getD (set taken i (getD taken i 0 + linkIn L k .amount)) j 0 ≡ used m (linksIn L k) (getD ns j 0) + cond (eqb (numberIn m (pairOf (linkIn L k))) (getD ns j 0)) (linkIn L k .amount) 0
         go (yes e) =
             rw (e, getD-set-same taken i (getD taken i 0 + linkIn L k .amount) 0 room-t, eq-eqb (numberIn m (pairOf (linkIn L k))) (getD ns i 0) (sym here))
-            (omega (arith, h .sums i on))
+            (omega (arith, h .sums sort i on))
         go (no e) =
-            rw (getD-set-other taken i j (getD taken i 0 + linkIn L k .amount) 0 e, ne-eqb (numberIn m (pairOf (linkIn L k))) (getD ns j 0) (λ f. e (distinct j i g on (sym f ∙ sym here))))
-            (omega (arith, h .sums j g))
+            rw (getD-set-other taken i j (getD taken i 0 + linkIn L k .amount) 0 e, ne-eqb (numberIn m (pairOf (linkIn L k))) (getD ns j 0) (λ f. e (distinct u sort j i g on (sym f ∙ sym here))))
+            (omega (arith, h .sums u j g))
 
     -- Link z is not past what its row keeps.
     abbrev Covered : ℕ → Type 0
-    Covered z = (j : ℕ) → On s m j → getD ns j 0 ≡ numberIn m (pairOf (linkIn L z)) → keyOf m (linkIn L z) ≤ getD last' j 0
+    Covered z = (u j : ℕ) → On (spansOf S u) m j → getD ns j 0 ≡ numberIn m (pairOf (linkIn L z)) → keyOf m (linkIn L z) ≤ getD last' j 0
 
     kept-here : getD last' i 0 ≡ keyOf m (linkIn L k)
     kept-here = rw (t .kept) (getD-set-same last i (keyOf m (linkIn L k)) 0 room-l)
 
     keys-more : (z : ℕ) → z < k + 1 → Covered z
-    keys-more = below-more Covered k old (λ j g e. let f : j ≡ i = distinct j i g on (e ∙ sym here) in rw f (omega (arith, kept-here)))
+    keys-more = below-more Covered k old (λ u j g e. let f : j ≡ i = distinct u sort j i g on (e ∙ sym here) in rw f (omega (arith, kept-here)))
       where
         old : (z : ℕ) → z < k → Covered z
-        old z l j g e = go (ℕ-discrete j i)
+        old z l u j g e = go (ℕ-discrete j i)
           where
             go : Dec (j ≡ i) → keyOf m (linkIn L z) ≤ getD last' j 0
-            go (yes f) = rw f (omega (arith, kept-here, rw f at (h .keys z l j g e), t .later))
-            go (no f) = rw (t .kept, getD-set-other last i j (keyOf m (linkIn L k)) 0 f) (h .keys z l j g e)
+            go (yes f) = rw f (omega (arith, kept-here, rw f at (h .keys z l u j g e), t .later))
+            go (no f) = rw (t .kept, getD-set-other last i j (keyOf m (linkIn L k)) 0 f) (h .keys z l u j g e)
 
-    side-more : Side ns s L (k + 1) taken' last' m
+    side-more : Side ns S L (k + 1) taken' last' m
     side-more = record { sums = sums-more; keys = keys-more }
 
-module _ (ns : List ℕ) (at : List (List ℤ)) (cs : List ℕ) (s : Spans) (L P : List (List ℕ)) where
-  pub took-none : (taken last : List ℕ) → Ready ns at cs s taken last → ((i : ℕ) → getD taken i 0 ≡ 0) → Took ns at cs s L P 0 taken last
+module _ (ns : List ℕ) (at : List (List ℤ)) (cs : List ℕ) (S : Sorts) (L P : List (List ℕ)) where
+  pub took-none : (taken last : List ℕ) → Ready ns at cs S taken last → ((i : ℕ) → getD taken i 0 ≡ 0) → Took ns at cs S L P 0 taken last
   took-none taken last r z = record {
     room = r .room;
     within = r .within;
     stands = below-none _;
     some = below-none _;
-    side = side-none ns cs s L taken last z;
+    side = side-none ns cs S L taken last z;
   }
 
   -- The next link is taken.
-  pub took-more : (k : ℕ) (taken last taken' last' : List ℕ) → Fit ns at cs s → Took ns at cs s L P k taken last
-      → Taken ns at cs s (linkIn L k) (getD (getD P k []) 0 0) (getD (getD P k []) 1 0) taken last taken' last' → Took ns at cs s L P (k + 1) taken' last'
+  pub took-more : (k : ℕ) (taken last taken' last' : List ℕ) → Fits ns at cs S → Took ns at cs S L P k taken last
+      → Taken ns at cs S (linkIn L k) (getD (getD P k []) 0 0) (getD (getD P k []) 1 0) taken last taken' last' → Took ns at cs S L P (k + 1) taken' last'
   took-more k taken last taken' last' f t x = record {
     room = (rw (x .second .amount) (length-set (x .between) j _ ∙ mid .0 ∙ t .room .0), rw (x .second .kept) (length-set (x .kept) j _ ∙ mid .1 ∙ t .room .1));
     within = within-more cs _ _ j _ _ _ _ (in-b .0) (within-more cs _ _ i _ _ _ _ (in-a .0) (t .within) (x .first)) (x .second);
@@ -162,20 +164,29 @@ module _ (ns : List ℕ) (at : List (List ℤ)) (cs : List ℕ) (s : Spans) (L P
       j : ℕ
       j = getD (getD P k []) 1 0
 
+      sort : ℕ
+      sort = x .stands .sort
+
+      on-a : On (spansOf S sort) masterA i
+      on-a = x .stands .rows .on masterA
+
+      on-b : On (spansOf S sort) masterB j
+      on-b = x .stands .rows .on masterB
+
       mid : (length (x .between) ≡ length taken) × (length (x .kept) ≡ length last)
       mid = (rw (x .first .amount) (length-set taken i _), rw (x .first .kept) (length-set last i _))
 
       in-a : (i < length taken) × (i < length last)
-      in-a = let h = x .stands .on masterA in (omega arith, omega arith)
+      in-a = let h = in-set f sort masterA i on-a in (omega (arith, t .room .0), omega (arith, t .room .1))
 
       in-b : (j < length (x .between)) × (j < length (x .kept))
       in-b =
-          let h = x .stands .on masterB in
+          let h = in-set f sort masterB j on-b in
           let e = mid in
-          (omega arith, omega arith)
+          (omega (arith, t .room .0), omega (arith, t .room .1))
 
-      both : (m : Master) → Side ns s L (k + 1) taken' last' m
-      both masterA = side-other ns cs s L (k + 1) _ _ j _ _ _ _ masterA (λ a. on-one (f .spans) j a (x .stands .on masterB))
-          (side-more ns cs s L k i _ _ _ _ masterA (f .distinct masterA) (x .stands .on masterA) (x .stands .named masterA) (in-a .0) (in-a .1) (t .side masterA) (x .first)) (x .second)
-      both masterB = side-more ns cs s L k j _ _ _ _ masterB (f .distinct masterB) (x .stands .on masterB) (x .stands .named masterB) (in-b .0) (in-b .1)
-          (side-other ns cs s L k _ _ i _ _ _ _ masterB (λ b. on-one (f .spans) i (x .stands .on masterA) b) (t .side masterB) (x .first)) (x .second)
+      both : (m : Master) → Side ns S L (k + 1) taken' last' m
+      both masterA = side-other ns cs S L (k + 1) _ _ j _ _ _ _ masterA (λ u a. on-one (f .fit u .spans) (f .fit sort .spans) j a on-b)
+          (side-more ns cs S L k i _ _ _ _ masterA (fits-distinct f masterA) sort on-a (x .stands .rows .named masterA) (in-a .0) (in-a .1) (t .side masterA) (x .first)) (x .second)
+      both masterB = side-more ns cs S L k j _ _ _ _ masterB (fits-distinct f masterB) sort on-b (x .stands .rows .named masterB) (in-b .0) (in-b .1)
+          (side-other ns cs S L k _ _ i _ _ _ _ masterB (λ u b. on-one (f .fit sort .spans) (f .fit u .spans) i on-a b) (t .side masterB) (x .first)) (x .second)

@@ -58,7 +58,7 @@ slice-aggregate-run-5 : tie.Need-slice-aggregate-run-5
 slice-aggregate-run-5 c = search needs
 
 run-requires : tie.Need-run-requires
-run-requires c κs = let p = c .before .before .before .before .before .before .before .before .before .before .before .before .before .before .before .before .before .before .before .before .before .before .before .before .before .before .before .before .before .before .before .before .before .pre in let a = c .before .before .before .before .before .before .before .before .before .before .before .before .before .before .before .before .before .before .before .before .before .before .before .before .lay .ensures in let b = c .before .before .before .before .before .before .before .before .before .before .before .before .lay2 .ensures in ((p .0, fenced-start _ _ (p .0) _ _ _ _ _ _ _ _ _ a b, p .1), kept-start _ _ (p .0) _ _ _ _ _ _ _ _ _ a b)
+run-requires c κs = let p = c .before .before .before .before .before .before .before .before .before .before .before .before .before .before .before .before .before .before .before .before .before .before .before .before .before .before .before .before .before .before .before .before .before .pre in let a = c .before .before .before .before .before .before .before .before .before .before .before .before .before .before .before .before .before .before .before .before .before .before .before .before .lay .ensures in let b = c .before .before .before .before .before .before .before .before .before .before .before .before .lay2 .ensures in ((p .0, fenced-start _ _ (p .0) _ _ _ _ _ _ _ _ _ a b), (kept-start _ _ (p .0) _ _ _ _ _ _ _ _ _ a b, p .1))
 
 same-length : tie.Need-same-length
 same-length c = search needs

@@ -16,14 +16,14 @@ use Rattle.closest.proofs.picks.run.Statement.{statement}
 use Rattle.closest.proofs.picks.run.Tie as tie
 
 abbrev Inv-loop : tie.InvT-loop
-Inv-loop s ns at left₀ listed₀ points₀ spot₀ ends₀ boxes links₀ chain₀ state₀ left listed points spot ends links chain state = Good (rows ns at s) left (lists listed points spot) ends boxes chain links state × (whole (rows ns at s) left links (state .links) ≡ rest (rows ns at s) left₀) × (state .more ≡ false → rest (rows ns at s) left ≡ [])
+Inv-loop s ns at left₀ listed₀ points₀ spot₀ ends₀ boxes links₀ n chain₀ state₀ left listed points spot ends links chain state = Good (rows ns at s) left (lists listed points spot) ends boxes chain links state × (whole (rows ns at s) left links (state .links) ≡ whole (rows ns at s) left₀ links₀ n) × (state .more ≡ false → rest (rows ns at s) left ≡ [])
 
 abbrev μ-loop : tie.MeasureT-loop
-μ-loop s ns at left₀ listed₀ points₀ spot₀ ends₀ boxes links₀ chain₀ state₀ left listed points spot ends links chain state = toGo (rows ns at s) left state
+μ-loop s ns at left₀ listed₀ points₀ spot₀ ends₀ boxes links₀ n chain₀ state₀ left listed points spot ends links chain state = toGo (rows ns at s) left state
 
 loop-holds : tie.Need-loop-holds Inv-loop μ-loop
 unfolding whole linksIn tabulate puts
-loop-holds c = let p = c .before .before .before .pre in (good-start _ _ _ _ _ _ _ (p .0 .0) (p .1) (p .0 .1) refl (p .0 .2), refl, λ e. let z : _≡_ {A = ℕ} 0 1 = cc in absurd (omega arith))
+loop-holds c = let p = c .before .before .before .pre in (good-start _ _ _ _ _ _ _ _ (p .0 .0) (p .1 .0) (p .0 .1) refl (p .1 .1), refl, λ e. let z : _≡_ {A = ℕ} 0 1 = cc in absurd (omega arith))
 
 slice-aggregate-step : tie.Need-slice-aggregate-step Inv-loop μ-loop
 slice-aggregate-step c = omega (arith, c .before .before .before .before .before .before .before .loop .inv .0 .ready .path .room)
@@ -57,7 +57,7 @@ same-length-6 c = omega arith
 
 returns : tie.Need-returns Inv-loop μ-loop
 unfolding whole
-returns c = let i = c .before .loop .inv in record { most = omega (arith, i .0 .count); room = i .0 .room; all = rw (i .2 (c .loop-test .left)) at (i .1) }
+returns c = let i = c .before .loop .inv in record { most = omega (arith, i .0 .room .most); room = i .0 .room .size; all = rw (i .2 (c .loop-test .left)) at (i .1) }
 
 pub run-spec : {M : Type 1} → statement M
 run-spec =

@@ -36,7 +36,7 @@ trim-requires : tie.Need-trim-requires
 trim-requires c κs = let p = c .before .before .before .before .before .before .before .before .before .before .before .before .before .before .before .before .before .before .before .before .before .before .before .before .before .before .before .before .before .before .before .pre in let q = rw (c .before .before .before .before .before .before .before .before .before .before .before .before .before .before .before .before .before .before .m2 .given .1) at (c .before .before .before .before .before .before .before .before .before .before .before .before .before .before .before .before .before .before .before .before .decide .ensures) in (deep _ _ _ _ _ _ _ _ (p .0) (p .1) _ q, omega (arith, depth-low _ _ _ _ _ _ _ _ (p .0) (p .1)), λ h l. omega (arith, p .0 .ready .path .held h l .low, p .0 .ready .sound .capacities, c .before .before .before .before .before .before .before .before .before .left .given))
 
 add-r-2 : tie.Need-add-r-2
-add-r-2 c = let p = c .before .before .before .before .before .before .before .before .before .before .before .before .before .before .before .before .before .before .before .before .before .before .before .before .before .before .before .before .before .before .before .before .before .before .pre in omega (arith, has-row _ _ _ _ _ _ _ _ (p .0) (p .1) _ (rw (c .before .before .before .before .before .before .before .before .before .before .before .before .before .before .before .before .before .before .before .before .before .m2 .given .1) at (c .before .before .before .before .before .before .before .before .before .before .before .before .before .before .before .before .before .before .before .before .before .before .before .decide .ensures)), p .0 .room)
+add-r-2 c = let p = c .before .before .before .before .before .before .before .before .before .before .before .before .before .before .before .before .before .before .before .before .before .before .before .before .before .before .before .before .before .before .before .before .before .before .pre in omega (arith, has-row _ _ _ _ _ _ _ _ (p .0) (p .1) _ (rw (c .before .before .before .before .before .before .before .before .before .before .before .before .before .before .before .before .before .before .before .before .before .m2 .given .1) at (c .before .before .before .before .before .before .before .before .before .before .before .before .before .before .before .before .before .before .before .before .before .before .before .decide .ensures)), p .0 .room .size)
 
 same-length : tie.Need-same-length
 same-length c = search needs

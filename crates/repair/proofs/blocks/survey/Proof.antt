@@ -29,7 +29,7 @@ abbrev μ-loop : tie.MeasureT-loop
 μ-loop r ns at blocks₀ boxes₀ b₀ blocks boxes b = setBlocks - b
 
 loop-holds : tie.Need-loop-holds Inv-loop μ-loop
-loop-holds c = (omega arith, omega arith, omega arith, c .before .before .pre .3)
+loop-holds c = (omega arith, omega arith, omega arith, c .before .before .pre .2)
 
 around-requires : tie.Need-around-requires Inv-loop μ-loop
 around-requires c κs =

@@ -3,6 +3,12 @@ use borrow.Author.Needs.{needs}
 use Rattle.repair.proofs.links.take_old.Statement.{statement}
 use Rattle.repair.proofs.links.take_old.Tie as tie
 
+find-requires : tie.Need-find-requires
+find-requires c κs = let e = c .before .pre .0 .1 in (e .both 0 .a .end, e .both 1 .a .end, e .numbers)
+
+find-requires-2 : tie.Need-find-requires-2
+find-requires-2 c κs = let e = c .before .before .pre .0 .1 in (e .both 0 .b .end, e .both 1 .b .end, e .numbers)
+
 release-requires : tie.Need-release-requires
 release-requires c κs =
     let r = c .before .before .before .before .before .before .before in
@@ -21,10 +27,10 @@ take-old-spec =
     (tie.spec
     (λ c. search needs)
     (λ c. search needs)
-    (λ c κs. search needs)
+    find-requires
     (λ c. search needs)
     (λ c. search needs)
-    (λ c κs. search needs)
+    find-requires-2
     (λ c. search needs)
     (λ c. search needs)
     (λ c κs. search needs)

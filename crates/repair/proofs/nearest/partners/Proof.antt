@@ -1,30 +1,13 @@
--- `nearest::partners` meets its contract: the row is one of its range. Assumes nothing.
-use native.Mathlib.Omega.{arith}
+-- `nearest::partners` meets its contract. Assumes nothing.
 use borrow.Author.Needs.{needs}
 use Rattle.repair.proofs.nearest.partners.Statement.{statement}
 use Rattle.repair.proofs.nearest.partners.Tie as tie
 
-search-requires : tie.Need-search-requires
-search-requires c κs =
-    let s = c .before .before .before .before .before .before .before .before in
-    (s .pre .0 .a .inside (s .args .t) (omega arith) (omega arith), s .pre .0 .b, s .pre .1, s .pre .2)
+among-requires : tie.Need-among-requires
+among-requires c κs = let p = c .before .before .before .pre in (p .0 .both 1, p .1, p .2)
 
-search-requires-2 : tie.Need-search-requires-2
-search-requires-2 c κs =
-    let s = c .before .before .before .before .before .before .before .before .before .before in
-    (s .pre .0 .b .inside (s .args .t) (omega arith) (omega arith), s .pre .0 .a, s .pre .1, s .pre .2)
+among-requires-2 : tie.Need-among-requires-2
+among-requires-2 c κs = let p = c .before .before .before .pre in (p .0 .both 0, p .1, p .2)
 
 pub partners-spec : {M : Type 1} → statement M
-partners-spec =
-    tie.close
-    (tie.spec
-    (λ c. search needs)
-    (λ c. search needs)
-    search-requires
-    (λ c. search needs)
-    (λ c. search needs)
-    (λ c. search needs)
-    search-requires-2
-    (λ c. search needs)
-    (λ c κs. search needs)
-    (λ c. search needs))
+partners-spec = tie.close (tie.spec (λ c κs. search needs) among-requires (λ c. search needs) among-requires-2 (λ c. search needs))

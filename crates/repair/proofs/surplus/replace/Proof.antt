@@ -7,7 +7,7 @@ use Rattle.repair.proofs.surplus.replace.Tie as tie
 find-earliest-requires : tie.Need-find-earliest-requires
 find-earliest-requires c κs =
     let p = c .before .before .before .before .before .before .before .before .before .before .before .pre in
-    (c .before .before .before .before .before .charge .ensures, p .1 .a .numbers, simp length-set (p .4))
+    (c .before .before .before .before .before .charge .ensures, p .1 .numbers, simp length-set (p .4))
 
 pub replace-spec : {M : Type 1} → statement M
 replace-spec =

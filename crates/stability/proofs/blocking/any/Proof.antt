@@ -4,7 +4,7 @@ use Prim.Native.Nat.{ℕ, _+_, _-_, _*_, _≤_, _<_}
 use mathlib.Core.Bool.{false≢true}
 use mathlib.Core.Path.{sym}
 use Rattle.matching.specs.Definitions.Sizes.{blockRows}
-use Rattle.stability.specs.Sizes.{masterBlocks}
+use Rattle.stability.specs.Sizes.{rangeBlocks}
 use Rattle.stability.specs.Ranges.{RowOf}
 use Rattle.stability.specs.Blocking.{Blocking}
 use Rattle.stability.proofs.Laws.Blocks.{part-ruled, block-more}
@@ -12,10 +12,10 @@ use Rattle.stability.proofs.blocking.any.Statement.{statement}
 use Rattle.stability.proofs.blocking.any.Tie as tie
 
 abbrev Inv-loop : tie.InvT-loop
-Inv-loop ns at e limits p q blocks g₀ g = (g ≤ masterBlocks) × ((j : ℕ) → RowOf q j → j < q .from + g * blockRows → (i : ℕ) → RowOf p i → ¬ Blocking ns at e limits i j)
+Inv-loop ns at e limits p q blocks g₀ g = (g ≤ rangeBlocks) × ((j : ℕ) → RowOf q j → j < q .from + g * blockRows → (i : ℕ) → RowOf p i → ¬ Blocking ns at e limits i j)
 
 abbrev μ-loop : tie.MeasureT-loop
-μ-loop ns at e limits p q blocks g₀ g = masterBlocks - g
+μ-loop ns at e limits p q blocks g₀ g = rangeBlocks - g
 
 survey-requires : tie.Need-survey-requires Inv-loop μ-loop
 survey-requires c κs = c .before .before .before .pre .0

@@ -4,7 +4,7 @@ use Prim.Native.Nat.{ℕ, _+_, _-_, _*_, _≤_, _<_}
 use mathlib.Core.Bool.{false≢true}
 use mathlib.Core.Path.{sym}
 use Rattle.matching.specs.Definitions.Sizes.{blockRows}
-use Rattle.stability.specs.Sizes.{masterBlocks}
+use Rattle.stability.specs.Sizes.{rangeBlocks}
 use Rattle.stability.specs.Ranges.{RowOf}
 use Rattle.stability.specs.Lanes.{StableLanes}
 use Rattle.stability.proofs.Laws.Blocks.{part-ruled, block-more}
@@ -12,10 +12,10 @@ use Rattle.stability.proofs.blocking.by_blocks.Statement.{statement}
 use Rattle.stability.proofs.blocking.by_blocks.Tie as tie
 
 abbrev Inv-loop : tie.InvT-loop
-Inv-loop p b ns at limits cn cx cy cf ch blocks g₀ g = (g ≤ masterBlocks) × ((k : ℕ) → RowOf p k → k < p .from + g * blockRows → StableLanes ns at limits cn cx cy cf ch k)
+Inv-loop p b ns at limits cn cx cy cf ch blocks g₀ g = (g ≤ rangeBlocks) × ((k : ℕ) → RowOf p k → k < p .from + g * blockRows → StableLanes ns at limits cn cx cy cf ch k)
 
 abbrev μ-loop : tie.MeasureT-loop
-μ-loop p b ns at limits cn cx cy cf ch blocks g₀ g = masterBlocks - g
+μ-loop p b ns at limits cn cx cy cf ch blocks g₀ g = rangeBlocks - g
 
 loop-holds : tie.Need-loop-holds Inv-loop μ-loop
 loop-holds c = (omega arith, λ k h l. absurd (omega arith))

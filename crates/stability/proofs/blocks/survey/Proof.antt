@@ -4,17 +4,17 @@ use Prim.Native.Nat.{ℕ, _-_, _≤_, _<_}
 use mathlib.Core.Path.{_≡_}
 use borrow.Author.Count.{below-none}
 use lib.ListN.{length, getD, length-set}
-use Rattle.stability.specs.Sizes.{masterBlocks}
+use Rattle.stability.specs.Sizes.{rangeBlocks}
 use Rattle.stability.specs.Blocks.{Encloses, part, none}
 use Rattle.stability.proofs.Laws.Blocks.{part-ruled, stored-below}
 use Rattle.stability.proofs.blocks.survey.Statement.{statement}
 use Rattle.stability.proofs.blocks.survey.Tie as tie
 
 abbrev Inv-loop : tie.InvT-loop
-Inv-loop ns at limits r blocks₀ g₀ blocks g = (g ≤ masterBlocks) × (length blocks ≡ masterBlocks) × ((k : ℕ) → k < g → Encloses ns at limits (part r k) (getD blocks k none))
+Inv-loop ns at limits r blocks₀ g₀ blocks g = (g ≤ rangeBlocks) × (length blocks ≡ rangeBlocks) × ((k : ℕ) → k < g → Encloses ns at limits (part r k) (getD blocks k none))
 
 abbrev μ-loop : tie.MeasureT-loop
-μ-loop ns at limits r blocks₀ g₀ blocks g = masterBlocks - g
+μ-loop ns at limits r blocks₀ g₀ blocks g = rangeBlocks - g
 
 loop-holds : tie.Need-loop-holds Inv-loop μ-loop
 loop-holds c = (omega arith, omega arith, below-none _)

@@ -2,14 +2,14 @@
 use native.Mathlib.Omega.{arith}
 use Prim.Native.Nat.{ℕ, _-_, _≤_}
 use lib.ListN.{getD}
-use Rattle.stability.specs.Ranges.{Filled}
+use Rattle.stability.specs.Ranges.{RowOf, Filled}
 use Rattle.stability.proofs.Laws.Ranges.{upTo, filled-none, filled-more, filled-end}
 use Rattle.stability.specs.Later.{Later}
 use Rattle.stability.proofs.later.only_later.Statement.{statement}
 use Rattle.stability.proofs.later.only_later.Tie as tie
 
 abbrev Inv-loop : tie.InvT-loop
-Inv-loop r old new e₀ i₀ e i = (r .from ≤ i) × (i ≤ r .to) × Filled (upTo (r .from) i) (λ k l. Later (getD old k 0) (getD new k 0) l) e₀ e
+Inv-loop r old new e₀ i₀ e i = (r .from ≤ i) × (i ≤ r .to) × Filled (RowOf (upTo (r .from) i)) (λ k _ l. Later (getD old k 0) (getD new k 0) l) e₀ e
 
 abbrev μ-loop : tie.MeasureT-loop
 μ-loop r old new e₀ i₀ e i = r .to - i

@@ -2,14 +2,14 @@
 use native.Mathlib.Omega.{arith}
 use Prim.Native.Nat.{ℕ, _-_, _≤_}
 use lib.ListN.{getD}
-use Rattle.stability.specs.Ranges.{Filled}
+use Rattle.stability.specs.Ranges.{RowOf, Filled}
 use Rattle.stability.proofs.Laws.Ranges.{upTo, filled-none, filled-more, filled-end}
 use mathlib.Core.Path.{_≡_, refl}
 use Rattle.stability.proofs.limits.copy.Statement.{statement}
 use Rattle.stability.proofs.limits.copy.Tie as tie
 
 abbrev Inv-loop : tie.InvT-loop
-Inv-loop r from to₀ i₀ to i = (r .from ≤ i) × (i ≤ r .to) × Filled (upTo (r .from) i) (λ k l. l ≡ getD from k 0) to₀ to
+Inv-loop r from to₀ i₀ to i = (r .from ≤ i) × (i ≤ r .to) × Filled (RowOf (upTo (r .from) i)) (λ k _ l. l ≡ getD from k 0) to₀ to
 
 abbrev μ-loop : tie.MeasureT-loop
 μ-loop r from to₀ i₀ to i = r .to - i

@@ -2,14 +2,14 @@
 use native.Mathlib.Omega.{arith}
 use Prim.Native.Nat.{ℕ, _-_, _≤_}
 use lib.ListN.{getD}
-use Rattle.stability.specs.Ranges.{Filled}
+use Rattle.stability.specs.Ranges.{RowOf, Filled}
 use Rattle.stability.proofs.Laws.Ranges.{upTo, filled-none, filled-more, filled-end}
 use Rattle.stability.specs.Limits.{Limit}
 use Rattle.stability.proofs.limits.note.Statement.{statement}
 use Rattle.stability.proofs.limits.note.Tie as tie
 
 abbrev Inv-loop : tie.InvT-loop
-Inv-loop r cs taken last₀ i₀ last i = (r .from ≤ i) × (i ≤ r .to) × Filled (upTo (r .from) i) (λ k l. Limit (getD cs k 0) (getD taken k 0) (getD last₀ k 0) l) last₀ last
+Inv-loop r cs taken last₀ i₀ last i = (r .from ≤ i) × (i ≤ r .to) × Filled (RowOf (upTo (r .from) i)) (λ k old l. Limit (getD cs k 0) (getD taken k 0) old l) last₀ last
 
 abbrev μ-loop : tie.MeasureT-loop
 μ-loop r cs taken last₀ i₀ last i = r .to - i
@@ -53,7 +53,7 @@ loop-less c = omega arith
 loop-again : tie.Need-loop-again Inv-loop μ-loop
 loop-again c =
     let l = c .before .before .before .before .before .before .loop in
-    (omega arith, omega arith, filled-more _ _ _ _ _ _ (l .inv .2) (l .inv .0) (omega arith) (rw (l .inv .2 .others (l .i) (λ h. omega arith)) at (c .limit .ensures)))
+    (omega arith, omega arith, filled-more _ _ _ _ _ _ (l .inv .2) (l .inv .0) (omega arith) (c .limit .ensures))
 
 same-length : tie.Need-same-length Inv-loop μ-loop
 same-length c = c .before .before .loop .inv .2 .room

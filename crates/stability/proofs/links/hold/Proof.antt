@@ -5,6 +5,7 @@ use mathlib.Core.Bool.{false≢true}
 use borrow.Author.Tests.{not-false}
 use lib.ListN.{length-replicate}
 use Rattle.matching.specs.Definitions.Sizes.{setRows}
+use Rattle.stability.proofs.Laws.Ranges.{filled-both, sorts-apart}
 use Rattle.stability.proofs.Laws.Links.{zeros}
 use Rattle.stability.proofs.Laws.Limits.{held}
 use Prim.Native.Nat.{ℕ}
@@ -29,23 +30,26 @@ same-length c = search needs
 returns-2 : tie.Need-returns-2
 returns-2 c = λ h. absurd (false≢true h)
 
-slice-aggregate-note : tie.Need-slice-aggregate-note
-slice-aggregate-note c = search needs
+slice-aggregate-note-both : tie.Need-slice-aggregate-note-both
+slice-aggregate-note-both c = search needs
 
-note-requires : tie.Need-note-requires
-note-requires c κs = search needs
+note-both-requires : tie.Need-note-both-requires
+note-both-requires c κs = let f = c .before .before .before .before .before .before .before .before .before .before .before .before .before .before .pre .0 .fit 0 in (f .spans, f .capacities, omega arith, omega arith)
 
-slice-aggregate-note-2 : tie.Need-slice-aggregate-note-2
-slice-aggregate-note-2 c = search needs
+slice-aggregate-note-both-2 : tie.Need-slice-aggregate-note-both-2
+slice-aggregate-note-both-2 c = search needs
 
-note-requires-2 : tie.Need-note-requires-2
-note-requires-2 c κs = search needs
+note-both-requires-2 : tie.Need-note-both-requires-2
+note-both-requires-2 c κs = let f = c .before .before .before .before .before .before .before .before .before .before .before .before .before .before .before .before .before .before .before .pre .0 .fit 1 in (f .spans, f .capacities, omega arith, omega arith)
 
 same-length-2 : tie.Need-same-length-2
 same-length-2 c = search needs
 
 returns-3 : tie.Need-returns-3
-returns-3 c = λ w. held _ _ _ _ _ _ _ _ _ _ _ (c .before .before .before .before .before .before .before .before .before .before .before .before .before .before .before .before .before .before .before .before .before .before .pre .0) (c .before .before .before .before .before .before .before .before .before .before .before .before .before .before .before .before .before .before .in-order .ensures (not-false _ (c .before .before .before .before .before .before .before .before .before .before .before .before .before .before .before .before .before .if1 .left))) (c .before .before .before .before .before .before .before .before .before .before .before .before .before .before .take-all .ensures (not-false _ (c .before .before .before .before .before .before .before .before .before .before .if2 .left))) (c .before .before .before .before .before .before .before .note .ensures) (c .before .before .note2 .ensures)
+returns-3 c = λ w. held _ _ _ _ _ _ _ _ _ _
+    (c .before .before .before .before .before .before .before .before .before .before .before .before .before .before .before .before .before .before .in-order .ensures (not-false _ (c .before .before .before .before .before .before .before .before .before .before .before .before .before .before .before .before .before .if1 .left)))
+    (c .before .before .before .before .before .before .before .before .before .before .before .before .before .before .take-all .ensures (not-false _ (c .before .before .before .before .before .before .before .before .before .before .if2 .left)))
+    (filled-both _ _ _ _ _ _ (sorts-apart (c .before .before .before .before .before .before .before .before .before .before .before .before .before .before .before .before .before .before .before .before .before .before .pre .0)) (c .before .before .before .before .before .before .before .note-both .ensures) (c .before .before .note-both2 .ensures))
 
 pub hold-spec : {M : Type 1} → statement M
 hold-spec =
@@ -57,9 +61,9 @@ hold-spec =
     take-all-requires
     same-length
     returns-2
-    slice-aggregate-note
-    note-requires
-    slice-aggregate-note-2
-    note-requires-2
+    slice-aggregate-note-both
+    note-both-requires
+    slice-aggregate-note-both-2
+    note-both-requires-2
     same-length-2
     returns-3)

@@ -4,7 +4,7 @@ use native.Mathlib.Omega.{arith}
 use mathlib.Core.Bool.{false≢true}
 use borrow.Author.Tests.{not-false}
 use Rattle.matching.specs.Definitions.Nodes.{masterA, masterB}
-use Rattle.stability.proofs.Laws.Ranges.{fit-ranged}
+use Rattle.stability.proofs.Laws.Ranges.{fits-ranged, in-set}
 use Rattle.stability.proofs.Laws.Links.{within-more}
 use Rattle.stability.proofs.links.take.Statement.{statement}
 use Rattle.stability.proofs.links.take.Tie as tie
@@ -21,8 +21,8 @@ array-read-j c = search needs
 cast-j : tie.Need-cast-j
 cast-j c = search needs
 
-stands-requires : tie.Need-stands-requires
-stands-requires c κs = let f = c .before .before .before .before .pre .fit in (fit-ranged f masterA, fit-ranged f masterB)
+stands-alike-requires : tie.Need-stands-alike-requires
+stands-alike-requires c κs = fits-ranged (c .before .before .before .before .pre .fit)
 
 returns : tie.Need-returns
 returns c = λ h. absurd (false≢true h)
@@ -40,7 +40,11 @@ pack-requires : tie.Need-pack-requires
 pack-requires c κs = search needs
 
 spend-requires : tie.Need-spend-requires
-spend-requires c κs = let h = c .before .before .before .before .stands .ensures (not-false _ (c .before .before .before .if1 .left)) .on masterA in (omega arith, omega arith, omega arith, c .before .before .before .before .before .before .before .before .before .pre .within)
+spend-requires c κs =
+    let p = c .before .before .before .before .before .before .before .before .before .pre in
+    let x = c .before .before .before .before .stands-alike .ensures (not-false _ (c .before .before .before .if1 .left)) in
+    let a = in-set (p .fit) (x .sort) masterA _ (x .rows .on masterA) in
+    (omega (arith, p .fit .fit 0 .capacities), omega arith, omega arith, p .within)
 
 same-length : tie.Need-same-length
 same-length c = search needs
@@ -65,9 +69,15 @@ pack-requires-2 c κs = search needs
 
 spend-requires-2 : tie.Need-spend-requires-2
 spend-requires-2 c κs =
-    let a = c .before .before .before .before .before .before .before .before .before .before .before .before .before .stands .ensures (not-false _ (c .before .before .before .before .before .before .before .before .before .before .before .before .if1 .left)) .on masterA in
-    let b = c .before .before .before .before .before .before .before .before .before .before .before .before .before .stands .ensures (not-false _ (c .before .before .before .before .before .before .before .before .before .before .before .before .if1 .left)) .on masterB in
-    (omega arith, omega arith, omega arith, within-more _ _ _ _ _ _ _ _ (omega arith) (c .before .before .before .before .before .before .before .before .before .before .before .before .before .before .before .before .before .before .pre .within) (c .before .before .before .before .before .before .before .before .spend .ensures (not-false _ (c .before .before .before .if2 .left))))
+    let p = c .before .before .before .before .before .before .before .before .before .before .before .before .before .before .before .before .before .before .pre in
+    let x = c .before .before .before .before .before .before .before .before .before .before .before .before .before .stands-alike .ensures (not-false _ (c .before .before .before .before .before .before .before .before .before .before .before .before .if1 .left)) in
+    let a = in-set (p .fit) (x .sort) masterA _ (x .rows .on masterA) in
+    let b = in-set (p .fit) (x .sort) masterB _ (x .rows .on masterB) in (
+      omega (arith, p .fit .fit 0 .capacities),
+      omega arith,
+      omega arith,
+      within-more _ _ _ _ _ _ _ _ (omega arith) (p .within) (c .before .before .before .before .before .before .before .before .spend .ensures (not-false _ (c .before .before .before .if2 .left))),
+    )
 
 same-length-3 : tie.Need-same-length-3
 same-length-3 c = search needs
@@ -77,7 +87,7 @@ same-length-4 c = search needs
 
 returns-3 : tie.Need-returns-3
 returns-3 c = λ w. record {
-  stands = c .before .before .before .before .before .before .before .before .before .before .before .before .before .before .before .before .before .before .stands .ensures (not-false _ (c .before .before .before .before .before .before .before .before .before .before .before .before .before .before .before .before .before .if1 .left));
+  stands = c .before .before .before .before .before .before .before .before .before .before .before .before .before .before .before .before .before .before .stands-alike .ensures (not-false _ (c .before .before .before .before .before .before .before .before .before .before .before .before .before .before .before .before .before .if1 .left));
   between = _;
   kept = _;
   first = rw (c .before .before .before .before .before .before .before .before .before .before .before .before .before .before .before .before .pack .ensures .0) at (c .before .before .before .before .before .before .before .before .before .before .before .before .before .spend .ensures (not-false _ (c .before .before .before .before .before .before .before .before .if2 .left)));
@@ -92,7 +102,7 @@ take-spec =
     cast-i
     array-read-j
     cast-j
-    stands-requires
+    stands-alike-requires
     returns
     array-read-spend
     array-read-pack
