@@ -6,9 +6,12 @@ use mathlib.Core.List.{List}
 use lib.Dec.{eqb, leb, ltb}
 use lib.ListN.{length, getD}
 use Rattle.matching.specs.declared.Range.{Range}
+use Rattle.matching.specs.Definitions.Lists.{All}
 use Rattle.matching.specs.Definitions.Nodes.{Unique}
 use Rattle.matching.specs.Definitions.Sizes.{nodeRows, half, setRows}
+use Rattle.matching.specs.Definitions.Rows.{size}
 use Rattle.tables.specs.Definitions.Tables.{nodesIn}
+use Rattle.load.specs.declared.table.Rows.{Rows}
 
 -- The slots of both masters.
 abbrev pub slotRows : ℕ
@@ -43,15 +46,29 @@ pub record Found (r : Range) (ns heads next : List ℕ) (n k : ℕ) : Type 0 whe
   pub number : k < r .to → getD ns k 0 ≡ n
   pub same : k ≡ lookUp r ns heads next n
 
--- No number stands twice in the range.
-abbrev pub Distinct : Range → List ℕ → Type 0
-Distinct r ns = (i k : ℕ) → r .from ≤ i → i < r .to → r .from ≤ k → k < r .to → getD ns i 0 ≡ getD ns k 0 → i ≡ k
+-- Each row of r is found by its number among those of w.
+abbrev pub FoundAll : Range → Range → List ℕ → List ℕ → List ℕ → Type 0
+FoundAll r w ns heads next = (i : ℕ) → r .from ≤ i → i < r .to → lookUp w ns heads next (getD ns i 0) ≡ i
 
--- A range of rows with the numbers of a table's nodes: where none stands twice in the range, none does in the table.
-pub record Named (t : List ℕ) (r : Range) (ns : List ℕ) : Type 0 where
+-- The rows of both sorts, with those between them.
+abbrev pub spanOf : Range → Range → Range
+spanOf on off = record { from = on .from; to = off .to }
+
+-- Row k is one of a master's.
+pub data Among (r : Rows) (k : ℕ) : Type 0 where
+  on-curve : r .on .from ≤ k → k < r .on .to → Among r k
+  off-curve : r .off .from ≤ k → k < r .off .to → Among r k
+
+-- No number stands twice in a master.
+abbrev pub Distinct : Rows → List ℕ → Type 0
+Distinct r ns = (i k : ℕ) → Among r i → Among r k → getD ns i 0 ≡ getD ns k 0 → i ≡ k
+
+-- Rows with the numbers of those of a table's nodes that are of a sort: where none stands twice in the rows, and all are of a sort, none does in the table.
+pub record Named (t : List ℕ) (r : Rows) (ns : List ℕ) : Type 0 where
   pub room : length ns ≡ setRows
-  pub order : r .from ≤ r .to
-  pub most : r .to ≤ r .from + nodeRows
-  pub end : r .to ≤ setRows
-  pub count : r .to ≡ r .from + length (nodesIn t)
-  pub unique : Distinct r ns → Unique (nodesIn t)
+  pub order-on : r .on .from ≤ r .on .to
+  pub order-off : r .off .from ≤ r .off .to
+  pub end-on : r .on .to ≤ setRows
+  pub end-off : r .off .to ≤ setRows
+  pub count : size (r .on) + size (r .off) ≤ length (nodesIn t)
+  pub unique : All (λ v. v .sort ≤ 1) (nodesIn t) → Distinct r ns → Unique (nodesIn t)

@@ -9,10 +9,10 @@ ghost use Rattle.tables.specs.Definitions.Tables.{fieldsGood, firstFault};
 ghost use Rattle.tables.specs.Definitions.Code.{faultOf};
 ghost use Rattle.load.specs.Index.{Indexed, Named};
 ghost use Rattle.load.specs.Fault.{ZeroRow};
-use crate::decode::decode;
 use crate::index::SLOTS;
 use crate::index::index;
-use matching::Range;
+use crate::table::Rows;
+use crate::table::table;
 use matching::sizes::ROWS;
 use tables::faults::Fault;
 use tables::faults::first_fault;
@@ -62,12 +62,12 @@ fn rows_zero(t: &[u8], n: usize) -> bool
     true
 }
 
-// Whether a table whose numbers stand in the range is without a fault. Quick, and never wrong where it says so.
-fn sound(t: &[u8], r: Range, ns: &[u32], heads: &mut [u16], next: &mut [u16]) -> bool
+// Whether a table whose numbers stand in the rows is without a fault. Quick, and never wrong where it says so.
+fn sound(t: &[u8], r: Rows, ns: &[u32], heads: &mut [u16], next: &mut [u16]) -> bool
     requires { ⌜ (length (now t) ≡ tableSize) × Named (now t) r (now ns) × Indexed (now heads) (now next) ⌝ }
     ensures { λ b. ⌜ (b ≡ true → firstFault (now (t .entry)) ≡ none) × Indexed (now (heads .exit)) (now (next .exit)) ⌝ }
 {
-    let n = r.to - r.from;
+    let n = (r.on.to - r.on.from) + (r.off.to - r.off.from);
     if !rows_good(t, n) {
         return false;
     }
@@ -77,8 +77,8 @@ fn sound(t: &[u8], r: Range, ns: &[u32], heads: &mut [u16], next: &mut [u16]) ->
     index(r, ns, heads, next)
 }
 
-// The first faulty row of a table whose numbers stand in the range; its rows are indexed.
-pub fn fault(t: &[u8], r: Range, ns: &[u32], heads: &mut [u16], next: &mut [u16]) -> Fault
+// The first faulty row of a table whose numbers stand in the rows, which are indexed.
+pub fn fault(t: &[u8], r: Rows, ns: &[u32], heads: &mut [u16], next: &mut [u16]) -> Fault
     requires { ⌜ (length (now t) ≡ tableSize) × Named (now t) r (now ns) × Indexed (now heads) (now next) ⌝ }
     ensures { λ f. ⌜ (f ≡ faultOf (firstFault (now (t .entry)))) × Indexed (now (heads .exit)) (now (next .exit)) ⌝ }
 {
@@ -98,6 +98,6 @@ pub fn check(t: &[u8]) -> Fault
     let mut cs = [0u32; ROWS];
     let mut heads = [0u16; SLOTS];
     let mut next = [0u16; ROWS];
-    let n = decode(t, 0, &mut ns, &mut at, &mut cs);
-    fault(t, Range { from: 0, to: n }, &ns, &mut heads, &mut next)
+    let r = table(t, 0, &mut ns, &mut at, &mut cs);
+    fault(t, r, &ns, &mut heads, &mut next)
 }

@@ -7,9 +7,10 @@ ghost use mathlib.Core.Bool.{true};
 ghost use lib.ListN.{length, getD};
 ghost use Rattle.matching.specs.Definitions.Sizes.{linkRows, setRows};
 ghost use Rattle.matching.specs.Definitions.Rows.{Spanned};
-ghost use Rattle.load.specs.Index.{slotRows, slotOf, Indexed, Distinct, Found};
+ghost use Rattle.load.specs.Index.{slotRows, slotOf, Indexed, spanOf, Distinct, Found, FoundAll};
+use crate::table::Rows;
 use matching::Range;
-use matching::Spans;
+use matching::Sorts;
 use matching::sizes::HALF;
 use matching::sizes::NODES;
 
@@ -22,6 +23,16 @@ fn slot(from: usize, number: u32) -> usize
     ensures { λ h. ⌜ (h ≡ slotOf from number) × (h < slotRows) ⌝ }
 {
     from / HALF % 2 * (SLOTS / 2) + ((number as u64) * 2654435769 % 4294967296 / 4194304) as usize
+}
+
+// The rows of both sorts, with those between them.
+fn span(on: Range, off: Range) -> Range
+    ensures { λ r. ⌜ r ≡ spanOf on off ⌝ }
+{
+    Range {
+        from: on.from,
+        to: off.to,
+    }
 }
 
 fn entry(is: &[u16], k: usize) -> usize
@@ -72,13 +83,14 @@ pub fn find(r: Range, ns: &[u32], heads: &[u16], next: &[u16], number: u32) -> u
     to
 }
 
-fn all_found(r: Range, ns: &[u32], heads: &[u16], next: &[u16]) -> bool
-    requires { ⌜ (r .to ≤ setRows) × (length (now ns) ≡ setRows) × Indexed (now heads) (now next) ⌝ }
-    ensures { λ b. ⌜ (b ≡ true → Distinct r (now (ns .entry))) ⌝ }
+// Every row of r is found by its number among those of w.
+fn all_found(r: Range, w: Range, ns: &[u32], heads: &[u16], next: &[u16]) -> bool
+    requires { ⌜ (r .to ≤ setRows) × (w .to ≤ setRows) × (length (now ns) ≡ setRows) × Indexed (now heads) (now next) ⌝ }
+    ensures { λ b. ⌜ (b ≡ true → FoundAll r w (now (ns .entry)) (now (heads .entry)) (now (next .entry))) ⌝ }
 {
     let mut i = r.from;
     while i < r.to {
-        if find(r, ns, heads, next, ns[i]) != i {
+        if find(w, ns, heads, next, ns[i]) != i {
             return false;
         }
         i += 1;
@@ -86,18 +98,25 @@ fn all_found(r: Range, ns: &[u32], heads: &[u16], next: &[u16]) -> bool
     true
 }
 
-// Fills the chains of the range's numbers; true where no number stands twice.
-pub fn index(r: Range, ns: &[u32], heads: &mut [u16], next: &mut [u16]) -> bool
-    requires { ⌜ (r .to ≤ setRows) × (length (now ns) ≡ setRows) × Indexed (now heads) (now next) ⌝ }
+// Fills the chains of a master's numbers; true where no number stands twice.
+pub fn index(r: Rows, ns: &[u32], heads: &mut [u16], next: &mut [u16]) -> bool
+    requires { ⌜ (r .on .to ≤ setRows) × (r .off .to ≤ setRows) × (length (now ns) ≡ setRows) × Indexed (now heads) (now next) ⌝ }
     ensures { λ b. ⌜ (b ≡ true → Distinct r (now (ns .entry))) × Indexed (now (heads .exit)) (now (next .exit)) ⌝ }
 {
-    chain(r, ns, heads, next);
-    all_found(r, ns, heads, next)
+    let on = r.on;
+    let off = r.off;
+    chain(on, ns, heads, next);
+    chain(off, ns, heads, next);
+    let w = span(on, off);
+    if !all_found(on, w, ns, heads, next) {
+        return false;
+    }
+    all_found(off, w, ns, heads, next)
 }
 
-// For each of the first n links the rows where its nodes were found, or the end of their range. A hint: who uses it compares again.
+// For each of the first n links the rows where its nodes were found, or the end of their master's. A hint: who uses it compares again.
 pub fn locate(
-    s: Spans,
+    s: Sorts,
     ns: &[u32],
     heads: &[u16],
     next: &[u16],
@@ -105,12 +124,12 @@ pub fn locate(
     n: usize,
     places: &mut [[u16; 2]],
 )
-    requires { ⌜ Spanned s × (length (now ns) ≡ setRows) × Indexed (now heads) (now next)
+    requires { ⌜ Spanned (s .off) × (length (now ns) ≡ setRows) × Indexed (now heads) (now next)
         × (n ≤ length (now links)) × (n ≤ linkRows) × (length (now places) ≡ linkRows) ⌝ }
     ensures { λ _. ⌜ length (now (places .exit)) ≡ linkRows ⌝ }
 {
-    let a = s.a;
-    let b = s.b;
+    let a = span(s.on.a, s.off.a);
+    let b = span(s.on.b, s.off.b);
     let mut k = 0;
     while k < n {
         let link = links[k];

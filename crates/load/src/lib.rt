@@ -2,41 +2,30 @@
 pub mod decode;
 pub mod fault;
 pub mod index;
+pub mod table;
 
-ghost use Prim.Native.Nat.{_+_, _≤_};
 ghost use mathlib.Core.Path.{_≡_};
 ghost use lib.ListN.{length};
-ghost use Rattle.matching.specs.Definitions.Sizes.{nodeRows, setRows};
 ghost use Rattle.tables.specs.Definitions.Sizes.{tableSize};
-ghost use Rattle.load.specs.Load.{Columns, Decoded, Loaded};
-use matching::Range;
+ghost use Rattle.load.specs.Load.{Columns, Loaded};
+use matching::Sorts;
 use matching::Spans;
 use matching::sizes::HALF;
+use table::table;
 
-// A table's nodes in order in the rows from `from` on; their count.
-fn place(t: &[u8], from: usize, ns: &mut [u32], at: &mut [[i16; 2]], cs: &mut [u32]) -> usize
-    requires { ⌜ (length (now t) ≡ tableSize) × (from + nodeRows ≤ setRows) × Columns (now ns) (now at) (now cs) ⌝ }
-    ensures { λ n. ⌜ Decoded (now (t .entry)) from n
-        (now (ns .entry)) (now (at .entry)) (now (cs .entry)) (now (ns .exit)) (now (at .exit)) (now (cs .exit)) ⌝ }
-{
-    let n = decode::decode(t, from, ns, at, cs);
-    let to = from + n;
-    packing::arrange(Range { from, to }, ns, at, cs);
-    n
-}
-
-// Gives the rows of each master.
-pub fn load(a: &[u8], b: &[u8], ns: &mut [u32], at: &mut [[i16; 2]], cs: &mut [u32]) -> Spans
+// Gives the rows of each sort and master.
+pub fn load(a: &[u8], b: &[u8], ns: &mut [u32], at: &mut [[i16; 2]], cs: &mut [u32]) -> Sorts
     requires { ⌜ (length (now a) ≡ tableSize) × (length (now b) ≡ tableSize) × Columns (now ns) (now at) (now cs) ⌝ }
     ensures { λ s. ⌜ Loaded (now (a .entry)) (now (b .entry)) (now (ns .exit)) (now (at .exit)) (now (cs .exit)) s ⌝ }
 {
-    let n = place(a, 0, ns, at, cs);
-    let m = place(b, HALF, ns, at, cs);
-    Spans {
-        a: Range { from: 0, to: n },
-        b: Range {
-            from: HALF,
-            to: HALF + m,
-        },
+    let p = table(a, 0, ns, at, cs);
+    let q = table(b, HALF, ns, at, cs);
+    let on_a = p.on;
+    let off_a = p.off;
+    let on_b = q.on;
+    let off_b = q.off;
+    Sorts {
+        on: Spans { a: on_a, b: on_b },
+        off: Spans { a: off_a, b: off_b },
     }
 }

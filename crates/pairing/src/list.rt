@@ -14,7 +14,7 @@ use lists::rows::read_links;
 use load::index::SLOTS;
 use load::index::locate;
 use load::load;
-use matching::Spans;
+use matching::Sorts;
 use matching::sizes::LINKS;
 use matching::sizes::ROWS;
 use verdicts::list::review;
@@ -25,7 +25,7 @@ pub fn examine(
     ns: &[u32],
     at: &[[i16; 2]],
     cs: &[u32],
-    s: Spans,
+    s: Sorts,
     heads: &[u16],
     next: &[u16],
     links: &mut [[u32; 4]],

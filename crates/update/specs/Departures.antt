@@ -6,8 +6,10 @@ use mathlib.Core.List.{List, [], _∷_, _++_}
 use native.Mathlib.Decide.{ℕ-discrete}
 use borrow.Author.Tests.{eq-eqb, ne-eqb}
 use Rattle.matching.specs.Definitions.Lists.{Reordered, same, swap, skip, then}
-use Rattle.matching.specs.Definitions.Nodes.{Node, Absent, Unique, has}
+use Rattle.matching.specs.Definitions.Nodes.{Node, Absent, Unique, has, ofSort}
 use Rattle.matching.specs.Definitions.Edits.{depart, amend, moved, resized}
+use Rattle.matching.specs.Laws.Lists.{all-map}
+use Rattle.matching.specs.Laws.Sorts.{all-of-sort}
 use Rattle.matching.specs.Laws.Split.{Split, split, absent-of-unique}
 use Rattle.matching.specs.Laws.Undo.{arrive-depart}
 use Rattle.matching.specs.Theorems.RowOrder.{reordered-unique}
@@ -46,6 +48,21 @@ depart-reordered (skip v {A = A} {C = C} r) u z = go (ℕ-discrete (v .number) z
     go (no e) d = rw (ne-eqb (v .number) z e) (skip v d)
 depart-reordered (then r s) u z = then (depart-reordered r u z) (depart-reordered s (reordered-unique r u) z)
 
+-- The nodes of a sort lose the same node.
+pub depart-sort : (u z : ℕ) (A : List Node) → Unique A → depart z (ofSort u A) ≡ ofSort u (depart z A)
+unfolding depart ofSort
+depart-sort u z [] h = refl
+depart-sort u z (v ∷ A) h = go (ℕ-discrete (v .number) z) (ℕ-discrete (v .sort) u) (depart-sort u z A (h .1))
+  where
+    free : v .number ≡ z → Absent z (ofSort u A)
+    free e = all-of-sort (λ w. z ≡ w .number → ⊥) u A (all-map (λ w n s d. n (e ∙ d)) A (h .0))
+
+    go : Dec (v .number ≡ z) → Dec (v .sort ≡ u) → depart z (ofSort u A) ≡ ofSort u (depart z A) → depart z (ofSort u (v ∷ A)) ≡ ofSort u (depart z (v ∷ A))
+    go (yes e) (yes s) r = rw (eq-eqb (v .sort) u s, eq-eqb (v .number) z e)
+    go (yes e) (no s) r = rw (ne-eqb (v .sort) u s, eq-eqb (v .number) z e) (depart-absent z (ofSort u A) (free e))
+    go (no e) (yes s) r = rw (eq-eqb (v .sort) u s, ne-eqb (v .number) z e, eq-eqb (v .sort) u s) (ap (λ (C : List Node). v ∷ C) r)
+    go (no e) (no s) r = rw (ne-eqb (v .sort) u s, ne-eqb (v .number) z e, ne-eqb (v .sort) u s) r
+
 -- A change that keeps the number.
 depart-amend : (f : Node → Node) → ((v : Node) → f v .number ≡ v .number) → (z : ℕ) (A : List Node) → depart z (amend f z A) ≡ depart z A
 unfolding depart amend
@@ -78,4 +95,4 @@ depart-edit e A u p = go (kind-cases e (p .least) (p .most))
         rw (k, depart-absent (numberOf e) A free) (arrive-depart (editNode e) A free)
     go (departure k) = rw k (depart-twice (numberOf e) A u)
     go (move k) = rw k (depart-amend (moved (editNode e .x) (editNode e .y)) (λ v. refl) (numberOf e) A)
-    go (capacity k) = rw k (depart-amend (resized (editNode e .capacity)) (λ v. refl) (numberOf e) A)
+    go (capacity k) = rw k (depart-amend (resized (editNode e .capacity) (editNode e .sort)) (λ v. refl) (numberOf e) A)

@@ -6,12 +6,12 @@ use mathlib.Core.Option.{Option, none, some}
 use mathlib.Core.List.{List, _++_}
 use lib.IntN.{ℤ}
 use lib.ListN.{length, take, drop}
-use Rattle.matching.specs.declared.Spans.{Spans}
+use Rattle.matching.specs.declared.Sorts.{Sorts}
 use Rattle.matching.specs.Definitions.Lists.{All}
 use Rattle.matching.specs.Definitions.Nodes.{masterA, masterB}
 use Rattle.matching.specs.Definitions.Links.{Link, common}
 use Rattle.matching.specs.Definitions.Join.{join}
-use Rattle.matching.specs.Definitions.Rows.{nodesOn, linksIn, Fit}
+use Rattle.matching.specs.Definitions.Rows.{nodesOf, linksIn, Fits}
 use Rattle.matching.specs.Definitions.Sizes.{linkRows}
 use Rattle.tables.specs.Definitions.Sizes.{linkSize, listSize}
 use Rattle.tables.specs.Definitions.Lists.{listBytes, firstDifference, zeroFrom}
@@ -22,9 +22,9 @@ use Rattle.contract.specs.declared.Answer.{Answer}
 use Rattle.contract.specs.declared.Answer.the-variants.{Done, Refused}
 use Rattle.contract.specs.declared.Refusal.the-variants.{Damaged, Unfinished}
 
--- The links of a set of rows.
-abbrev pub linksOn : Spans → List ℕ → List (List ℤ) → List ℕ → List Link
-linksOn s ns at cs = join (nodesOn s ns at cs masterA) (nodesOn s ns at cs masterB)
+-- The links of a set of rows, of both sorts.
+abbrev pub linksOn : Sorts → List ℕ → List (List ℤ) → List ℕ → List Link
+linksOn s ns at cs = join (nodesOf s ns at cs masterA) (nodesOf s ns at cs masterB)
 
 -- The refusal of a list that leaves the finished one in row k: too early, or something else stands there.
 abbrev pub leaves : List ℕ → ℕ → Answer
@@ -46,13 +46,13 @@ pub record Listed (J : List Link) (L : List (List ℕ)) : Type 0 where
   pub links : linksIn L (length J) ≡ J
 
 -- What is compared: a list, and a set of rows whose links fit a list.
-pub record Beside (l ns : List ℕ) (at : List (List ℤ)) (cs : List ℕ) (s : Spans) : Type 0 where
+pub record Beside (l ns : List ℕ) (at : List (List ℤ)) (cs : List ℕ) (s : Sorts) : Type 0 where
   pub size : length l ≡ listSize
-  pub fit : Fit ns at cs s
+  pub fit : Fits ns at cs s
   pub good : All GoodLink (linksOn s ns at cs)
 
 -- What is reviewed: the list's n links in rows, the places of their nodes, and limits that bar every pair.
-pub record Reviewed (l ns : List ℕ) (at : List (List ℤ)) (cs : List ℕ) (s : Spans) (L P : List (List ℕ)) (n : ℕ) (K : List ℕ) : Type 0 where
+pub record Reviewed (l ns : List ℕ) (at : List (List ℤ)) (cs : List ℕ) (s : Sorts) (L P : List (List ℕ)) (n : ℕ) (K : List ℕ) : Type 0 where
   pub beside : Beside l ns at cs s
   pub read : LinksRead l L n
   pub places : length P ≡ linkRows
@@ -64,8 +64,8 @@ pub record Finished (l : List ℕ) (J : List Link) (L : List (List ℕ)) (n : �
   pub links : linksIn L n ≡ J
 
 -- What is settled: rows for links and places, and limits that bar every pair.
-pub record Settled (ns : List ℕ) (at : List (List ℤ)) (cs : List ℕ) (s : Spans) (L P : List (List ℕ)) (K : List ℕ) : Type 0 where
-  pub fit : Fit ns at cs s
+pub record Settled (ns : List ℕ) (at : List (List ℤ)) (cs : List ℕ) (s : Sorts) (L P : List (List ℕ)) (K : List ℕ) : Type 0 where
+  pub fit : Fits ns at cs s
   pub room : length L ≡ linkRows
   pub places : length P ≡ linkRows
   pub barred : Barred ns at s K

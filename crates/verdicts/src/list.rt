@@ -12,7 +12,7 @@ use contract::Answer;
 use contract::Refusal;
 use lists::compare::first_difference;
 use lists::zeros::zero_from;
-use matching::Spans;
+use matching::Sorts;
 use matching::sizes::LINKS;
 use stability::verify;
 use tables::compare::Difference;
@@ -34,7 +34,7 @@ fn compare(
     ns: &[u32],
     at: &[[i16; 2]],
     cs: &[u32],
-    s: Spans,
+    s: Sorts,
     links: &mut [[u32; 4]],
 ) -> Answer
     requires { ⌜ Beside (now list) (now ns) (now at) (now cs) s × (length (now links) ≡ linkRows) ⌝ }
@@ -55,7 +55,7 @@ fn finished(
     ns: &[u32],
     at: &[[i16; 2]],
     cs: &[u32],
-    s: Spans,
+    s: Sorts,
     links: &[[u32; 4]],
     places: &[[u16; 2]],
     n: usize,
@@ -77,7 +77,7 @@ pub fn review(
     ns: &[u32],
     at: &[[i16; 2]],
     cs: &[u32],
-    s: Spans,
+    s: Sorts,
     links: &mut [[u32; 4]],
     places: &[[u16; 2]],
     n: usize,
@@ -99,7 +99,7 @@ fn checked(
     ns: &[u32],
     at: &[[i16; 2]],
     cs: &[u32],
-    s: Spans,
+    s: Sorts,
     links: &[[u32; 4]],
     places: &[[u16; 2]],
     n: usize,
@@ -120,7 +120,7 @@ pub fn settle(
     ns: &[u32],
     at: &[[i16; 2]],
     cs: &[u32],
-    s: Spans,
+    s: Sorts,
     links: &mut [[u32; 4]],
     places: &[[u16; 2]],
     n: usize,

@@ -7,7 +7,8 @@ use lib.ListN.{getD}
 use borrow.Author.Tests.{eq-eqb, ne-eqb, lt-ltb, le-ltb, le-leb, lt-leb}
 use Rattle.matching.specs.declared.Range.{Range}
 use Rattle.matching.specs.Definitions.Sizes.{nodeRows}
-use Rattle.load.specs.Index.{slotOf, walk, lookUp, Found, Distinct}
+use Rattle.load.specs.declared.table.Rows.{Rows}
+use Rattle.load.specs.Index.{slotOf, walk, lookUp, Found, FoundAll, Among, on-curve, off-curve, Distinct}
 
 -- The walk from the entry i on, f entries at most, is the whole look-up.
 pub record Walking (r : Range) (ns heads next : List ℕ) (n f i : ℕ) : Type 0 where
@@ -58,5 +59,9 @@ module _ {r : Range} {ns heads next : List ℕ} {n : ℕ} where
         }
 
 -- Where each row is found by its number, no number stands twice.
-pub found-distinct : (r : Range) (ns heads next : List ℕ) → ((i : ℕ) → r .from ≤ i → i < r .to → lookUp r ns heads next (getD ns i 0) ≡ i) → Distinct r ns
-found-distinct r ns heads next h i k a b c d e = sym (h i a b) ∙ ap (lookUp r ns heads next) e ∙ h k c d
+pub found-distinct : (r : Rows) (w : Range) (ns heads next : List ℕ) → FoundAll (r .on) w ns heads next → FoundAll (r .off) w ns heads next → Distinct r ns
+found-distinct r w ns heads next p q i k a b e = sym (here a) ∙ ap (lookUp w ns heads next) e ∙ here b
+  where
+    here : {i : ℕ} → Among r i → lookUp w ns heads next (getD ns i 0) ≡ i
+    here (on-curve l h) = p _ l h
+    here (off-curve l h) = q _ l h

@@ -1,7 +1,7 @@
 -- Nodes of rows in a list, where one row is written, added, or filled by the last. Assumes nothing.
 use Prim.Native.Nat.{ℕ, suc, _+_, _-_, _≤_, _<_}
-use mathlib.Core.Path.{_≡_, sym, _∙_, ap, ap₂, subst}
-use mathlib.Core.List.{List, [], _∷_, _++_, append-nil}
+use mathlib.Core.Path.{_≡_, refl, sym, _∙_, ap, ap₂, subst}
+use mathlib.Core.List.{List, [], _∷_, _++_, append-nil, List·Memᴰ, List·Memᴰ·head, List·Memᴰ·tail}
 use native.Mathlib.Decide.{ℕ-discrete}
 use native.Mathlib.Omega.{arith}
 use Rattle.matching.specs.Definitions.Lists.{Reordered, same, swap, skip, then}
@@ -25,6 +25,10 @@ behind (v ∷ D) r = skip v (behind D r)
 pub put-first : (A : List Node) (v : Node) (C : List Node) → Reordered (A ++ (v ∷ C)) (v ∷ (A ++ C))
 put-first [] v C = same
 put-first (w ∷ A) v C = then (skip w (put-first A v C)) (swap w v)
+
+pub in-middle : (A : List Node) (v : Node) (C : List Node) → List·Memᴰ v (A ++ (v ∷ C))
+in-middle [] v C = List·Memᴰ·head refl
+in-middle (w ∷ A) v C = List·Memᴰ·tail (in-middle A v C)
 
 -- The nodes before and after row i.
 module _ (f : ℕ → Node) (first : ℕ) where

@@ -8,38 +8,16 @@ use Rattle.update.proofs.update.Statement.{statement}
 use Rattle.update.proofs.update.Tie as tie
 
 update-node-requires : tie.Need-update-node-requires
-update-node-requires c κs =
-    let k = c .before .before .before .before .before in
-    let m = k .before in
-    let n = m .before .number-of in
-    let p = m .before .before .before .before .before .before .before .before .pre in
-    (outdated (p .0) masterA (names-a (p .0) (sym (m .master-of .ensures) ∙ k .if1 .taken)) (n .result) (n .ensures), omega arith, p .1, p .2)
+update-node-requires c κs = let p = c .before .before .before .before .before .before .before .before .before .before .before .before .before .before .before .before .before .before .pre in let n = c .before .before .before .before .before .before .before .before .before .before .before .number-of in (outdated (p .0) masterA (names-a (p .0) (sym (c .before .before .before .before .before .before .master-of .ensures) ∙ c .before .before .before .before .before .if1 .taken)) (n .result) (n .ensures), omega arith, p .1, p .2)
 
 returns : tie.Need-returns
-returns c =
-    let u = c .before .before .before .before .before .before .before .before .before in
-    let k = u .before .before .before .before .before .before in
-    let m = k .before in
-    let p = m .before .before .before .before .before .before .before .before .pre in
-    let d = u .update-node .ensures in
-    updated (p .0) masterA (names-a (p .0) (sym (m .master-of .ensures) ∙ k .if1 .taken)) (d .0) (d .1)
+returns c = let p = c .before .before .before .before .before .before .before .before .before .before .before .before .before .before .before .before .before .before .before .before .before .before .before .before .before .before .before .before .before .pre in let d = c .before .before .before .before .before .before .before .before .before .before .update-node .ensures in updated (p .0) masterA (names-a (p .0) (sym (c .before .before .before .before .before .before .before .before .before .before .before .before .before .before .before .before .before .master-of .ensures) ∙ c .before .before .before .before .before .before .before .before .before .before .before .before .before .before .before .before .if1 .taken)) (d .0) (d .1)
 
 update-node-requires-2 : tie.Need-update-node-requires-2
-update-node-requires-2 c κs =
-    let k = c .before .before .before .before .before in
-    let m = k .before in
-    let n = m .before .number-of in
-    let p = m .before .before .before .before .before .before .before .before .pre in
-    (outdated (p .0) masterB (names-b (p .0) (λ h. k .if1 .left (m .master-of .ensures ∙ h))) (n .result) (n .ensures), omega arith, p .1, p .2)
+update-node-requires-2 c κs = let p = c .before .before .before .before .before .before .before .before .before .before .before .before .before .before .before .before .before .before .pre in let n = c .before .before .before .before .before .before .before .before .before .before .before .number-of in (outdated (p .0) masterB (names-b (p .0) (λ h. c .before .before .before .before .before .if1 .left (c .before .before .before .before .before .before .master-of .ensures ∙ h))) (n .result) (n .ensures), omega arith, p .1, p .2)
 
 returns-2 : tie.Need-returns-2
-returns-2 c =
-    let u = c .before .before .before .before .before .before .before .before .before in
-    let k = u .before .before .before .before .before .before in
-    let m = k .before in
-    let p = m .before .before .before .before .before .before .before .before .pre in
-    let d = u .update-node2 .ensures in
-    updated (p .0) masterB (names-b (p .0) (λ h. k .if1 .left (m .master-of .ensures ∙ h))) (d .0) (d .1)
+returns-2 c = let p = c .before .before .before .before .before .before .before .before .before .before .before .before .before .before .before .before .before .before .before .before .before .before .before .before .before .before .before .before .before .pre in let d = c .before .before .before .before .before .before .before .before .before .before .update-node2 .ensures in updated (p .0) masterB (names-b (p .0) (λ h. c .before .before .before .before .before .before .before .before .before .before .before .before .before .before .before .before .if1 .left (c .before .before .before .before .before .before .before .before .before .before .before .before .before .before .before .before .before .master-of .ensures ∙ h))) (d .0) (d .1)
 
 pub update-spec : {M : Type 1} → statement M
 update-spec =

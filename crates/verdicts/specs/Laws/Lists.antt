@@ -1,13 +1,13 @@
 -- The verdict on a list, by what a check or a comparison shows.
 use Prim.Native.Nat.{ℕ, suc, _<_, _≤_}
-use mathlib.Core.Path.{_≡_, sym, _∙_, ap, subst, subst⁻¹}
+use mathlib.Core.Path.{_≡_, sym, _∙_, ap, subst}
 use mathlib.Core.Bool.{Bool, true, false, cond}
-use mathlib.Core.Option.{none, some}
+use mathlib.Core.Option.{some}
 use mathlib.Core.List.{List, [], _∷_}
 use native.Mathlib.Omega.{arith}
 use lib.IntN.{ℤ}
 use lib.ListN.{length}
-use Rattle.matching.specs.declared.Spans.{Spans}
+use Rattle.matching.specs.declared.Sorts.{Sorts}
 use Rattle.matching.specs.Definitions.Nodes.{Node}
 use Rattle.matching.specs.Definitions.Links.{Link, sameLink, common}
 use Rattle.matching.specs.Definitions.Join.{join}
@@ -75,6 +75,6 @@ row-low l f k e = low
     low = unfold firstDifference in some-from (differs l f) linkRows 0 k (sym e) .low
 
 -- The links of a set can be compared with a list.
-pub comparable : {l ns : List ℕ} {at : List (List ℤ)} {cs : List ℕ} {s : Spans} {A B : List Node} {L : List (List ℕ)} {n : ℕ}
+pub comparable : {l ns : List ℕ} {at : List (List ℤ)} {cs : List ℕ} {s : Sorts} {A B : List Node} {L : List (List ℕ)} {n : ℕ}
     → Beside l ns at cs s → Joined A B L n → join A B ≡ linksOn s ns at cs → Comparable l L n
 comparable b j e = record { size = b .size; most = j .most; room = j .room; good = rw (j .links ∙ e) (b .good) }

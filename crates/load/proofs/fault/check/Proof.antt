@@ -1,13 +1,12 @@
 -- `fault::check` meets its contract: what is decoded has the table's numbers. Assumes nothing.
+use native.Mathlib.Omega.{arith}
 use borrow.Author.Needs.{needs}
-use Rattle.load.specs.Laws.Loaded.{decoded-named}
+use Rattle.load.specs.Laws.Loaded.{whole-named}
 use Rattle.load.proofs.fault.check.Statement.{statement}
 use Rattle.load.proofs.fault.check.Tie as tie
 
 fault-requires : tie.Need-fault-requires
-fault-requires c κs =
-    let d = c .before .before .before .before .before .before .decode .ensures in
-    (search needs, decoded-named d, record { slots = search needs; rows = search needs })
+fault-requires c κs = (search needs, whole-named (c .before .before .before .before .before .before .table .ensures), record { slots = search needs; rows = search needs })
 
 pub check-spec : {M : Type 1} → statement M
 check-spec =

@@ -11,7 +11,7 @@ use Rattle.contract.specs.declared.Refusal.the-variants.{Length, TableB}
 use Rattle.contract.specs.Definitions.Requests.{edit}
 use Rattle.contract.specs.Laws.Conditions.{stated}
 use Rattle.contract.specs.Laws.Places.{tried}
-use Rattle.load.specs.Laws.Loaded.{loaded-named}
+use Rattle.load.specs.Laws.Represents.{loaded-named}
 use Rattle.pairing.specs.Laws.Verdicts.{tables-length, tables-judged}
 use Rattle.pairing.specs.Laws.Calls.{own-call, tables-call}
 use Rattle.pairing.specs.Laws.Sets.{both-sound, list-size}
@@ -31,13 +31,13 @@ returns-2 c =
 load-requires : tie.Need-load-requires
 load-requires c κs =
     let s = stated _ _ (sym (c .before .before .before .before .before .before .lengths-right .ensures) ∙ not-false _ (c .before .before .before .before .before .if2 .left)) in
-    (s .a, s .b, record { numbers = length-replicate {A = ℕ} 1024 0; positions = length-replicate {A = List ℤ} 1024 (pos 0 ∷ pos 0 ∷ []); capacities = length-replicate {A = ℕ} 1024 0 })
+    (s .a, s .b, record { numbers = length-replicate {A = ℕ} 1152 0; positions = length-replicate {A = List ℤ} 1152 (pos 0 ∷ pos 0 ∷ []); capacities = length-replicate {A = ℕ} 1152 0 })
 
 judge-requires : tie.Need-judge-requires
 judge-requires c κs =
     let s = stated _ _ (sym (c .before .before .before .before .before .before .before .before .before .before .before .before .before .before .before .lengths-right .ensures) ∙ not-false _ (c .before .before .before .before .before .before .before .before .before .before .before .before .before .before .if2 .left)) in
     let l = c .before .before .before .before .before .before .before .before .load .ensures in
-    (s .a, s .b, loaded-named l masterA, loaded-named l masterB, record { slots = length-replicate {A = ℕ} 2048 0; rows = length-replicate {A = ℕ} 1024 0 })
+    ((s .a, s .b, record { slots = length-replicate {A = ℕ} 2048 0; rows = length-replicate {A = ℕ} 1152 0 }), (loaded-named l masterA, loaded-named l masterB))
 
 inspect-requires : tie.Need-inspect-requires
 inspect-requires c κs =

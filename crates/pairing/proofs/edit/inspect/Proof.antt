@@ -36,7 +36,7 @@ examine-requires c κs =
     let bb = bytes-known (x .b .now) (c .before .before .before .before .before .before .before .before .before .before .before .before .before .slice-known2 .given) in
     let l = s .pre .1 .0 in (
       (set-beside (x .a .now) (x .b .now) f ba bb (sound-represents f ba bb l) (x .list .now) (s .pre .0 .1), s .pre .1 .1),
-      (length-replicate {A = List ℕ} 1023 (0 ∷ 0 ∷ 0 ∷ 0 ∷ []), length-replicate {A = List ℕ} 1023 (0 ∷ 0 ∷ []), no-limits (l .spans)),
+      (length-replicate {A = List ℕ} 1023 (0 ∷ 0 ∷ 0 ∷ 0 ∷ []), length-replicate {A = List ℕ} 1023 (0 ∷ 0 ∷ []), no-limits (l .rows .spans)),
     )
 
 -- Where the function begins, as seen from the performed edit, and what is known of the tables there.

@@ -21,7 +21,7 @@ repair-requires : tie.Need-repair-requires
 repair-requires c κs =
     let h = c .before .before .before .before .before .before .before .before .before .before .before .before .before .before .before .before .before .before .before .before .before .before .before .before .before .before .before .before .before .pre .1 .1 in
     let u = c .before .before .before .before .before .before .before .before .before .before .before .before .before .before .before .before .update .ensures in (
-      u .rows .fit,
+      u .rows .fits,
       record { most = h .most; links = h .room; places = u .places },
       record { most = omega arith; links = length-replicate {A = List ℕ} 1023 (0 ∷ 0 ∷ 0 ∷ 0 ∷ []); places = length-replicate {A = List ℕ} 1023 (0 ∷ 0 ∷ []) },
     )

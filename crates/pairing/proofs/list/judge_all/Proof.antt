@@ -11,7 +11,7 @@ use Rattle.tables.specs.Laws.ListRead.{bytes-known}
 use Rattle.contract.specs.declared.Answer.the-variants.{Refused}
 use Rattle.contract.specs.declared.Refusal.the-variants.{Length}
 use Rattle.contract.specs.Laws.Conditions.{stated}
-use Rattle.load.specs.Laws.Loaded.{loaded-named}
+use Rattle.load.specs.Laws.Represents.{loaded-named}
 use Rattle.verdicts.specs.Lists.{listAnswer}
 use Rattle.pairing.specs.Laws.Verdicts.{tables-length, tables-judged, list-refused, set-beside, set-links, set-joined, list-judged}
 use Rattle.pairing.specs.Laws.Sets.{no-limits, both-sound, list-size, sound-represents}
@@ -27,13 +27,13 @@ returns c =
 load-requires : tie.Need-load-requires
 load-requires c κs =
     let s = stated _ _ (sym (c .before .before .before .before .lengths-right .ensures) ∙ not-false _ (c .before .before .before .if1 .left)) in
-    (s .a, s .b, record { numbers = length-replicate {A = ℕ} 1024 0; positions = length-replicate {A = List ℤ} 1024 (pos 0 ∷ pos 0 ∷ []); capacities = length-replicate {A = ℕ} 1024 0 })
+    (s .a, s .b, record { numbers = length-replicate {A = ℕ} 1152 0; positions = length-replicate {A = List ℤ} 1152 (pos 0 ∷ pos 0 ∷ []); capacities = length-replicate {A = ℕ} 1152 0 })
 
 judge-requires : tie.Need-judge-requires
 judge-requires c κs =
     let s = stated _ _ (sym (c .before .before .before .before .before .before .before .before .before .before .before .lengths-right .ensures) ∙ not-false _ (c .before .before .before .before .before .before .before .before .before .before .if1 .left)) in
     let l = c .before .before .before .before .before .before .load .ensures in
-    (s .a, s .b, loaded-named l masterA, loaded-named l masterB, record { slots = length-replicate {A = ℕ} 2048 0; rows = length-replicate {A = ℕ} 1024 0 })
+    ((s .a, s .b, record { slots = length-replicate {A = ℕ} 2048 0; rows = length-replicate {A = ℕ} 1152 0 }), (loaded-named l masterA, loaded-named l masterB))
 
 examine-requires : tie.Need-examine-requires
 examine-requires c κs =
@@ -45,7 +45,7 @@ examine-requires c κs =
     let bb = bytes-known (x .b .now) (c .before .before .before .before .before .before .before .before .before .before .before .before .before .before .before .before .before .before .before .before .before .before .before .before .before .before .shared-slice-known2 .given) in
     let l = c .before .before .before .before .before .before .before .before .before .before .before .before .before .before .before .before .before .before .before .load .ensures in (
       (set-beside (x .a .now) (x .b .now) f ba bb (sound-represents f ba bb l) (x .list .now) (list-size (x .a .now) (x .b .now) (x .list .now) e _ (j .0) (c .before .before .before .before .before .before .before .before .before .match .keys1)), j .1),
-      (c .before .before .before .before .before .before .before .before .before .before .before .before .before .before .before .before .before .before .before .before .before .before .before .before .before .before .before .before .pre, length-replicate {A = List ℕ} 1023 (0 ∷ 0 ∷ []), no-limits (l .spans)),
+      (c .before .before .before .before .before .before .before .before .before .before .before .before .before .before .before .before .before .before .before .before .before .before .before .before .before .before .before .before .pre, length-replicate {A = List ℕ} 1023 (0 ∷ 0 ∷ []), no-limits (l .rows .spans)),
     )
 
 returns-2 : tie.Need-returns-2

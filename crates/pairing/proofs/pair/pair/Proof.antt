@@ -13,7 +13,7 @@ use Rattle.contract.specs.declared.Refusal.the-variants.{Length, TableB}
 use Rattle.contract.specs.Definitions.Requests.{pair}
 use Rattle.contract.specs.Laws.Conditions.{stated}
 use Rattle.contract.specs.Laws.Places.{tried}
-use Rattle.load.specs.Laws.Loaded.{loaded-named}
+use Rattle.load.specs.Laws.Represents.{loaded-named}
 use Rattle.pairing.specs.Laws.Verdicts.{tables-length, tables-judged, set-join}
 use Rattle.pairing.specs.Laws.Calls.{tables-call, pair-call}
 use Rattle.pairing.specs.Laws.Sets.{both-sound, list-size, sound-represents}
@@ -29,13 +29,13 @@ returns c =
 load-requires : tie.Need-load-requires
 load-requires c κs =
     let s = stated _ _ (sym (c .before .before .before .before .lengths-right .ensures) ∙ not-false _ (c .before .before .before .if1 .left)) in
-    (s .a, s .b, record { numbers = length-replicate {A = ℕ} 1024 0; positions = length-replicate {A = List ℤ} 1024 (pos 0 ∷ pos 0 ∷ []); capacities = length-replicate {A = ℕ} 1024 0 })
+    (s .a, s .b, record { numbers = length-replicate {A = ℕ} 1152 0; positions = length-replicate {A = List ℤ} 1152 (pos 0 ∷ pos 0 ∷ []); capacities = length-replicate {A = ℕ} 1152 0 })
 
 judge-requires : tie.Need-judge-requires
 judge-requires c κs =
     let s = stated _ _ (sym (c .before .before .before .before .before .before .before .before .before .before .before .lengths-right .ensures) ∙ not-false _ (c .before .before .before .before .before .before .before .before .before .before .if1 .left)) in
     let l = c .before .before .before .before .before .before .load .ensures in
-    (s .a, s .b, loaded-named l masterA, loaded-named l masterB, record { slots = length-replicate {A = ℕ} 2048 0; rows = length-replicate {A = ℕ} 1024 0 })
+    ((s .a, s .b, record { slots = length-replicate {A = ℕ} 2048 0; rows = length-replicate {A = ℕ} 1152 0 }), (loaded-named l masterA, loaded-named l masterB))
 
 join-requires : tie.Need-join-requires
 join-requires c κs =
@@ -43,7 +43,7 @@ join-requires c κs =
     let e = sym (c .before .before .before .before .before .before .before .before .before .before .before .before .before .before .before .before .before .before .before .before .lengths-right .ensures) ∙ not-false _ (c .before .before .before .before .before .before .before .before .before .before .before .before .before .before .before .before .before .before .before .if1 .left) in
     let f = both-sound (x .a .now) (x .b .now) (x .list .now) e _ (c .before .before .before .before .before .before .before .before .judge .ensures .0) (c .before .before .before .before .before .match .keys1) in
     let h = sound-represents f (bytes-known (x .a .now) (c .before .before .before .before .before .before .before .before .before .before .before .before .before .before .before .before .before .before .before .before .before .before .before .before .shared-slice-known .given)) (bytes-known (x .b .now) (c .before .before .before .before .before .before .before .before .before .before .before .before .before .before .before .before .before .before .before .before .before .before .before .shared-slice-known2 .given)) (c .before .before .before .before .before .before .before .before .before .before .before .before .before .before .before .load .ensures) in
-    (h .fit, length-replicate {A = List ℕ} 1023 (0 ∷ 0 ∷ 0 ∷ 0 ∷ []))
+    (h .fits, length-replicate {A = List ℕ} 1023 (0 ∷ 0 ∷ 0 ∷ 0 ∷ []))
 
 write-rows-requires : tie.Need-write-rows-requires
 write-rows-requires c κs =

@@ -1,96 +1,28 @@
--- `node::update_node` meets its contract: the four ways in which a node can be in the table and in the range. Assumes nothing.
-use mathlib.Core.Path.{refl, _∙_}
+-- `node::update_node` meets its contract: one sort and then the other. Assumes nothing.
 use native.Mathlib.Omega.{arith}
 use borrow.Author.Needs.{needs}
-use Rattle.update.proofs.Laws.Node.{row-room, node-written, node-added, node-removed, node-missing}
+use Rattle.update.proofs.Laws.Update.{still-outdated, current-both}
 use Rattle.update.proofs.node.update_node.Statement.{statement}
 use Rattle.update.proofs.node.update_node.Tie as tie
 
-store-requires : tie.Need-store-requires
-store-requires c κs =
-    let k = c .before .before .before in
-    let q = k .before in
-    let f = q .before in
-    let o = f .before .before .before .before .before .before .pre .0 in
-    (o .size, k .if1 .taken, omega (arith, row-room o (f .find .ensures) (q .row-of .ensures) (k .if1 .taken), o .room), o .columns)
+update-sort-requires : tie.Need-update-sort-requires
+update-sort-requires c κs = let p = c .before .before .before .before .before .before .before .before .before .before .before .pre in (p .0 .rows 0 (omega arith), p .1, p .2, p .3)
 
-slice-write-limits : tie.Need-slice-write-limits
-slice-write-limits c =
-    let k = c .before .before .before .before .before .before .before .before .before in
-    let q = k .before in
-    let f = q .before in
-    let o = f .before .before .before .before .before .before .pre .0 in
-    omega (arith, row-room o (f .find .ensures) (q .row-of .ensures) (k .if1 .taken), o .room, o .limits)
+update-sort-requires-2 : tie.Need-update-sort-requires-2
+update-sort-requires-2 c κs = let p = c .before .before .before .before .before .before .before .before .before .before .before .before .before .before .before .before .before .before .before .before .before .before .before .before .before .pre in let d = c .before .before .before .before .before .before .before .before .before .before .before .before .before .update-sort .ensures in (still-outdated (p .0) (d .0), p .1, d .1, p .3)
 
 returns : tie.Need-returns
-returns c =
-    let w = c .before .before .before .before .before .before .before in
-    let k = w .before .before .before .before in
-    let q = k .before in
-    let f = q .before in
-    let p = f .before .before .before .before .before .before .pre in
-    (node-written (p .0) (f .find .ensures) (q .row-of .ensures) (k .if1 .taken) (w .store .ensures) refl (c .if2 .taken), p .2)
-
-returns-2 : tie.Need-returns-2
-returns-2 c =
-    let w = c .before .before .before .before .before .before .before in
-    let k = w .before .before .before .before in
-    let q = k .before in
-    let f = q .before in
-    let p = f .before .before .before .before .before .before .pre in
-    (node-added (p .0) (f .find .ensures) (q .row-of .ensures) (k .if1 .taken) (w .store .ensures) refl (c .if2 .left), p .2)
-
-returns-3 : tie.Need-returns-3
-returns-3 c =
-    let w = c .before .before .before .before .before .before .before .before .before .before in
-    let l = w .before .before .before .before .before .before in
-    let k = l .before .before in
-    let q = k .before in
-    let f = q .before in
-    let p = f .before .before .before .before .before .before .pre in
-    let d = w .fill .ensures in (
-      node-removed (p .0) (f .find .ensures) _ (q .row-of .ensures) (k .if1 .left) (l .if3 .taken) (omega arith) (d .0) (d .1),
-      c .before .redirect .ensures ∙ p .2,
-    )
-
-returns-4 : tie.Need-returns-4
-returns-4 c =
-    let k = c .before .before in
-    let q = k .before in
-    let f = q .before in
-    let p = f .before .before .before .before .before .before .pre in
-    (node-missing (p .0) (f .find .ensures) (q .row-of .ensures) (k .if1 .left) (c .if3 .left), p .2)
+returns c = let d = c .before .before .before .before .before .before .before .before .update-sort2 .ensures in (current-both (c .before .before .before .before .before .before .before .before .before .before .before .before .before .before .before .before .before .before .before .before .before .before .before .before .before .before .before .before .before .before .before .before .before .before .pre .0) (c .before .before .before .before .before .before .before .before .before .before .before .before .before .before .before .before .before .before .before .before .before .before .update-sort .ensures .0) (d .0), d .1)
 
 pub update-node-spec : {M : Type 1} → statement M
 update-node-spec =
     tie.close
     (tie.spec
-    (λ c κs. search needs)
-    (λ c κs. search needs)
-    store-requires
-    (λ c. search needs)
-    slice-write-limits
-    (λ c. search needs)
-    (λ c. search needs)
-    (λ c. search needs)
-    (λ c. search needs)
-    returns
+    update-sort-requires
+    update-sort-requires-2
     (λ c. search needs)
     (λ c. search needs)
     (λ c. search needs)
     (λ c. search needs)
     (λ c. search needs)
-    returns-2
-    (λ c. search needs)
-    (λ c κs. search needs)
-    (λ c. search needs)
-    (λ c. search needs)
-    (λ c κs. search needs)
-    (λ c. search needs)
-    (λ c. search needs)
-    (λ c. search needs)
-    (λ c. search needs)
-    (λ c. search needs)
-    returns-3
-    (λ c. search needs)
-    returns-4)
+    returns)

@@ -1,5 +1,5 @@
 -- `verdicts::spare::of_node` meets its contract: number 0, a number not there, or what is left. Assumes nothing.
-use Prim.Native.Nat.{ℕ, _+_, _*_, _-_}
+use Prim.Native.Nat.{ℕ, _-_}
 use mathlib.Core.Path.{_∙_, ap}
 use mathlib.Core.Bool.{cond}
 use native.Mathlib.Omega.{arith}
@@ -7,9 +7,7 @@ use lib.Dec.{eqb}
 use Rattle.matching.specs.Definitions.Nodes.{masterA, masterB}
 use Rattle.matching.specs.Definitions.Links.{used}
 use Rattle.matching.specs.Definitions.Rows.{linksIn}
-use Rattle.tables.specs.Definitions.Sizes.{capacitySize, nodeCapacity, nodeSize}
-use Rattle.tables.specs.Laws.Fields.{nat-high}
-use Rattle.tables.specs.Laws.ListRead.{bytes-known}
+use Rattle.tables.specs.Definitions.Tables.{nodeFrom}
 use Rattle.verdicts.specs.Laws.Spare.{spare-zero, spare-unknown, spare-known}
 use borrow.Author.Needs.{needs}
 use Rattle.verdicts.proofs.spare.of_node.Statement.{statement}
@@ -22,10 +20,8 @@ returns-2 : tie.Need-returns-2
 returns-2 c = spare-unknown _ _ _ _ (c .before .before .if1 .left) _ (c .before .row-of .ensures) (c .if2 .taken)
 
 cast-t13 : tie.Need-cast-t13
-cast-t13 c =
-    let t = c .before .before .before .before .before .before .args .t .now in
-    let high = nat-high capacitySize t (bytes-known t (c .before .before .before .before .before .shared-slice-known .given)) (nodeSize * (c .before .before .before .row-of .result) + nodeCapacity) in
-    record { fits = omega (arith, c .spare .ensures, c .before .capacity-in .ensures, high) }
+unfolding nodeFrom
+cast-t13 c = record { fits = omega (arith, c .spare .ensures, c .before .capacity-in .ensures) }
 
 returns-3 : tie.Need-returns-3
 returns-3 c =

@@ -6,7 +6,9 @@ use Rattle.verdicts.proofs.write.rewrite.Statement.{statement}
 use Rattle.verdicts.proofs.write.rewrite.Tie as tie
 
 write-rows-requires : tie.Need-write-rows-requires
-write-rows-requires c κs = (c .before .before .before .pre .0, kept-low _ _ _ _ (c .before .common-rows .ensures .0), c .before .before .before .pre .2)
+write-rows-requires c κs =
+    let kept = c .before .common-rows .ensures in
+    (c .before .before .before .pre .0, omega (arith, kept-low _ _ _ _ (kept .0), kept .1), search needs)
 
 returns : tie.Need-returns
 returns c = record { kept = c .before .before .before .before .common-rows .ensures .0; rows = c .before .before .write-rows .ensures; low = omega (arith, c .before .before .before .before .common-rows .ensures .1, c .before .before .before .before .before .before .pre .1 .most) }
