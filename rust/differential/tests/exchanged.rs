@@ -1,11 +1,14 @@
 //! The masters lent in the opposite order, through the archive: the same links with their numbers exchanged, the same
-//! spare of every node, the same counts.
+//! spare of every node, the same counts; with drawings of every choice of sorts in every family.
+
+use std::collections::BTreeSet;
 
 use differential::Archive;
 use model::buffers::links_of;
 use model::checks::fault_of_exchange;
 use model::engine::Engine;
-use model::generate::drawing::{each_drawing, Drawing, Size};
+use model::generate::drawing::{each_drawing, Drawing, Size, SORTS};
+use model::generate::places::FAMILIES;
 use model::rows::Link;
 use model::sizes::*;
 
@@ -70,10 +73,12 @@ fn both_orders() {
         (Size::OneFull, 1),
         (Size::Full, 1),
     ];
-    let mut reordered = 0;
+    let (mut reordered, mut met) = (0, BTreeSet::new());
     let drawings = each_drawing(9_000_000, &plan, |seed, drawing| {
         reordered += u64::from(compare(seed, drawing));
+        met.insert((drawing.family, drawing.sorts, drawing.size));
     });
     println!("drawings lent in both orders: {drawings}, rows in another order: {reordered}");
     assert!(reordered > 300);
+    assert_eq!(met.len(), FAMILIES.len() * SORTS.len() * plan.len());
 }

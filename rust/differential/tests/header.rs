@@ -62,6 +62,8 @@ fn macros() -> Vec<(&'static str, i64)> {
         ("PAIRING_POSITION_MAX", POSITION_MAX),
         ("PAIRING_CAPACITY_MIN", CAPACITY_MIN as i64),
         ("PAIRING_CAPACITY_MAX", CAPACITY_MAX as i64),
+        ("PAIRING_SORT_ON_CURVE", SORT_ON_CURVE as i64),
+        ("PAIRING_SORT_OFF_CURVE", SORT_OFF_CURVE as i64),
         ("PAIRING_MASTER_A", MASTER_A as i64),
         ("PAIRING_MASTER_B", MASTER_B as i64),
         ("PAIRING_KIND_ARRIVAL", KIND_ARRIVAL as i64),

@@ -2,6 +2,8 @@
 
 mod program;
 
+use std::collections::BTreeMap;
+
 use model::buffers::table_of;
 use model::generate::damage::{damage_table, TABLE_FAULTS};
 use model::generate::drawing::{Drawing, SIZES};
@@ -23,7 +25,10 @@ fn input(number: u64, table: &[u8]) -> Vec<u8> {
 
 fn line(word: &str, node: &Node) -> String {
     let (x, y) = (node.horizontal, node.vertical);
-    format!("{word} {} {x} {y} {}\n", node.number, node.capacity)
+    format!(
+        "{word} {} {x} {y} {} {}\n",
+        node.number, node.capacity, node.sort
+    )
 }
 
 /// What the model's reader gives, as the program prints it.
@@ -59,15 +64,15 @@ fn some_number(random: &mut Random, nodes: &[Node]) -> u64 {
 fn a_sample() {
     let sample = [
         Node::new(7, -16_384, 16_384, 64),
-        Node::new(65_535, 0, -1, 1),
-        Node::new(1, 10, 0, 2),
+        Node::off_curve(65_535, 0, -1, 1),
+        Node::off_curve(1, 10, 0, 64),
     ];
-    let listed = "node 7 -16384 16384 64\nnode 65535 0 -1 1\nnode 1 10 0 2\n";
+    let listed = "node 7 -16384 16384 64 0\nnode 65535 0 -1 1 1\nnode 1 10 0 64 1\n";
     let table = table_of(&sample);
     for (number, answer) in [
-        (7, "found 7 -16384 16384 64\n"),
-        (65_535, "found 65535 0 -1 1\n"),
-        (1, "found 1 10 0 2\n"),
+        (7, "found 7 -16384 16384 64 0\n"),
+        (65_535, "found 65535 0 -1 1 1\n"),
+        (1, "found 1 10 0 64 1\n"),
         // The rows of these are not their numbers.
         (2, "none\n"),
         (0, "none\n"),
@@ -80,7 +85,7 @@ fn a_sample() {
 
 #[test]
 fn sound_tables() {
-    let (mut full, mut found) = (0, 0);
+    let (mut full, mut found, mut sorts) = (0, 0, BTreeMap::new());
     for seed in 0..40 {
         let random = &mut Random::new(seed);
         for size in SIZES {
@@ -92,12 +97,16 @@ fn sound_tables() {
                 let number = some_number(random, nodes);
                 full += usize::from(nodes.len() == TABLE_ROWS);
                 found += usize::from(find(&table, number).is_some());
+                for node in nodes {
+                    *sorts.entry(node.sort).or_insert(0) += 1;
+                }
                 compare("a sound table", number, &table);
             }
         }
     }
-    println!("sound tables: {full} of them full, {found} numbers found");
-    assert!(full >= 10 && found >= 100);
+    println!("sound tables: {full} of them full, {found} numbers found, nodes by sort {sorts:?}");
+    assert!(full >= 10 && found >= 100 && sorts.values().all(|nodes| *nodes > 5_000));
+    assert_eq!(sorts.len(), 2);
 }
 
 #[test]
@@ -162,7 +171,7 @@ fn random_bytes() {
 /// The program reads no further than it needs, and waits for what comes late.
 #[test]
 fn inputs_in_pieces_or_open() {
-    let table = table_of(&[Node::new(3, -5, 6, 7)]);
+    let table = table_of(&[Node::off_curve(3, -5, 6, 7)]);
     let whole = input(3, &table);
     let text = expected(3, &table);
     assert_eq!(NODES.run_slowly(&whole, &[1, 2, 3, 9, TABLE_BYTES]), text);

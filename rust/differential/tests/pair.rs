@@ -1,5 +1,5 @@
 //! Pair beside the model's: every answer and every byte of the list, over all
-//! families, sizes and capacities; and what it must refuse, with number and row.
+//! families, sizes, capacities and sorts; and what it must refuse, with number and row.
 
 mod support;
 
@@ -9,7 +9,7 @@ use model::buffers::list_of;
 use model::calls;
 use model::engine::Engine;
 use model::generate::damage::{damage_table, TABLE_FAULTS};
-use model::generate::drawing::{Drawing, Size, CAPACITIES, NUMBERS, SIZES};
+use model::generate::drawing::{Drawing, Size, CAPACITIES, NUMBERS, SIZES, SORTS};
 use model::generate::lengths::wrong_length;
 use model::generate::places::FAMILIES;
 use model::generate::random::Random;
@@ -93,16 +93,20 @@ fn compare(seed: u64, drawing: &Drawing, lent: &[u8]) -> Vec<Link> {
     links
 }
 
-/// Calls the test with drawings of every class of the plan.
+/// Calls the test with drawings of every class of the plan. The sorts take turns, so that each family meets them all in
+/// each line of the plan.
 fn each_drawing(mut test: impl FnMut(u64, &mut Random, &Drawing)) {
     let mut seed = 0;
     for (size, most_a, most_b, repeats) in PLAN {
-        for family in FAMILIES {
+        for (place, family) in FAMILIES.into_iter().enumerate() {
             for capacities in CAPACITIES {
                 for numbers in NUMBERS {
                     for _ in 0..repeats {
                         let random = &mut Random::new(seed);
-                        let mut drawing = Drawing::of(random, family, size, capacities, numbers);
+                        // Off by the family, or else a choice would keep to one class.
+                        let sorts = SORTS[(seed as usize + place) % SORTS.len()];
+                        let mut drawing =
+                            Drawing::of_sorts(random, family, size, capacities, numbers, sorts);
                         drawing.a.truncate(most_a);
                         drawing.b.truncate(most_b);
                         test(seed, random, &drawing);
@@ -123,8 +127,9 @@ fn joins_of_every_class() {
     });
     println!("{tally}");
     assert_eq!(tally.empty_cells(), [], "cells never met");
+    assert_eq!(tally.empty_sorts(), [], "sorts never met");
     assert!(tally.drawings() >= 10_000);
-    assert!(5 * tally.decided_by_numbers() >= 2 * tally.drawings());
+    assert!(5 * tally.decided_by_numbers() >= 2 * tally.linked());
 }
 
 fn assert_refused(seed: u64, what: &str, a: &[u8], b: &[u8], lent: &[u8]) {
@@ -224,7 +229,9 @@ fn a_million_small_drawings() {
         let random = &mut Random::new(seed);
         let (capacities, numbers) = (random.pick(&CAPACITIES), random.pick(&NUMBERS));
         let family = seed as usize % FAMILIES.len();
-        let mut drawing = Drawing::of(random, FAMILIES[family], Size::Small, capacities, numbers);
+        let (size, sorts) = (Size::Small, random.pick(&SORTS));
+        let mut drawing =
+            Drawing::of_sorts(random, FAMILIES[family], size, capacities, numbers, sorts);
         drawing.a.truncate(drawing.a.len() % COUNTS);
         drawing.b.truncate(drawing.b.len() % COUNTS);
         snap(&mut drawing, random.pick(&[1, 4, 512, 4_096, 16_384]));

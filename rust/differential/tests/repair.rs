@@ -1,40 +1,54 @@
 //! Edits that leave many nodes with more than they had: up to as many as a repair of the links keeps at a time, and one
 //! more, where the links are joined anew.
 
-use differential::Archive;
-use model::buffers::{links_of, table_of};
-use model::engine::{Engine, Model};
+mod beside;
+
+use beside::Held;
+use model::buffers::links_of;
 use model::rows::{Edit, Node};
 use model::sizes::*;
 
-/// A node holds this many of the other master, and then moves so far away that a third node gets them all.
-fn drawing(held: u64) -> (Vec<Node>, Vec<Node>) {
+/// A node of this sort holds this many of the other master, and then leaves them, so that a third node gets them all.
+/// Nodes of the other sort lie between them, for nobody.
+fn drawing(held: u64, sort: u64) -> (Vec<Node>, Vec<Node>) {
+    let node = |number, x, capacity| Node::new(number, x, 0, capacity).with_sort(sort);
+    let other = |number, x| Node::new(number, x, 0, CAPACITY_MAX).with_sort(SORT_MAX - sort);
     let holders = vec![
-        Node::new(1, 0, 0, CAPACITY_MAX),
-        Node::new(2, 5_000, 0, CAPACITY_MAX),
+        node(1, 0, CAPACITY_MAX),
+        other(3, 100),
+        node(2, 5_000, CAPACITY_MAX),
     ];
-    let others = (1..=held).map(|n| Node::new(n, n as i64, 0, 1)).collect();
+    let others = (1..=held).map(|n| node(n, n as i64, 1)).collect();
     (holders, others)
 }
 
 #[test]
 fn many_nodes_with_more_than_they_had() {
     for held in 1..=CAPACITY_MAX {
-        for master in [MASTER_A, MASTER_B] {
-            let (holders, others) = drawing(held);
-            let (a, b) = match master {
-                MASTER_A => (table_of(&holders), table_of(&others)),
-                _ => (table_of(&others), table_of(&holders)),
+        for (master, sort) in [MASTER_A, MASTER_B].map(|m| [(m, 0), (m, 1)]).concat() {
+            let what = format!("{held} held, master {master}, sort {sort}");
+            let (holders, others) = drawing(held, sort);
+            let before = match master {
+                MASTER_A => Held::new(&what, &holders, &others),
+                _ => Held::new(&what, &others, &holders),
             };
-            let mut list = vec![0; LIST_BYTES];
-            assert_eq!(u64::from(Model.pair(&a, &b, &mut list)), held);
-            let moved = Edit::moved(master, 1, POSITION_MIN, 0).bytes();
-            let (mut right, mut got) = ((a.clone(), b.clone(), list.clone()), (a, b, list));
-            let answer = Model.edit(&mut right.0, &mut right.1, &mut right.2, &moved);
-            let said = Archive.edit(&mut got.0, &mut got.1, &mut got.2, &moved);
-            assert_eq!(said, answer);
-            assert!(got == right, "{held} held, master {master}");
-            assert_eq!(links_of(&got.2).len() as u64, held);
+            assert_eq!(links_of(&before.list).len() as u64, held);
+            let other_sort = Edit::new_capacity(master, 1, CAPACITY_MAX).with_sort(SORT_MAX - sort);
+            for edit in [
+                Edit::moved(master, 1, POSITION_MIN, 0),
+                Edit::departure(master, 1),
+                other_sort,
+            ] {
+                let after = before.edited(&what, &edit);
+                let links = links_of(&after.list);
+                assert_eq!(links.len() as u64, held, "{edit:?}, {what}");
+                let holder = |link: &model::rows::Link| [link.a, link.b][master as usize];
+                assert!(links.iter().all(|link| holder(link) == 2), "{what}");
+            }
+            // There and back: those that the third node held return.
+            let back = Edit::new_capacity(master, 1, CAPACITY_MAX).with_sort(sort);
+            let again = before.edited(&what, &other_sort).edited(&what, &back);
+            assert!(again == before, "{what}");
         }
     }
 }

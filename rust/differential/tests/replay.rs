@@ -124,6 +124,25 @@ fn e11_text() {
     assert_eq!(REPLAY.run(&e11()), text);
 }
 
+/// Nodes pair with their own sort only; one that changes its sort takes another's partner, and gives it back.
+#[test]
+fn handles_text() {
+    let a = [node(1, 0, 0), Node::off_curve(2, 10, 0, 1)];
+    let b = [Node::off_curve(1, 1, 0, 1), node(2, 9, 0)];
+    let to_sort = |sort| Edit::new_capacity(MASTER_A, 1, 1).with_sort(sort);
+    let edits = [
+        to_sort(SORT_OFF_CURVE),
+        to_sort(SORT_ON_CURVE),
+        Edit::departure(MASTER_A, 1).with_sort(SORT_OFF_CURVE),
+        Edit::arrival(MASTER_A, node(3, 0, 0).with_sort(SORT_MAX + 1)),
+    ];
+    let text = "load 2\nedit 1 kept 0 links 1\nedit 2 kept 0 links 2\nedit 3 refused 8\nedit 4 refused 8\n\
+                link 1 2 81 1\nlink 2 1 81 1\n";
+    let input = with_edits(tables(&a, &b), &edits);
+    assert_eq!(REPLAY.run(&input), text);
+    compare("handles", &input);
+}
+
 #[test]
 fn short_inputs() {
     let whole = e11();
@@ -170,10 +189,12 @@ fn parts_left_over() {
 fn refused_tables() {
     for (start, number) in [(0, 2), (TABLE_BYTES, 3)] {
         for row in [0, 1, 2, TABLE_ROWS - 1] {
-            let mut input = e11();
-            NODE_CAPACITY.write(table_row_mut(&mut input[start..], row), CAPACITY_MAX + 1);
             let text = format!("load refused {number} row {row}\n");
-            assert_eq!(REPLAY.run(&input), text);
+            for (field, bad) in [(NODE_CAPACITY, CAPACITY_MAX + 1), (NODE_SORT, SORT_MAX + 1)] {
+                let mut input = e11();
+                field.write(table_row_mut(&mut input[start..], row), bad);
+                assert_eq!(REPLAY.run(&input), text);
+            }
         }
     }
     for seed in 0..200 {

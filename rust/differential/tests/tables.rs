@@ -41,7 +41,7 @@ fn compare(table: &[u8], seed: u64, what: &str) {
 
 #[test]
 fn sound_tables() {
-    let mut by_nodes = [0; 3];
+    let (mut by_nodes, mut by_sort) = ([0; 3], [0; 2]);
     for seed in 0..1_000 {
         let mut random = Random::new(seed);
         for size in SIZES {
@@ -49,6 +49,9 @@ fn sound_tables() {
             for table in [drawing.table_a(), drawing.table_b()] {
                 assert_eq!(first_faulty_row(&table), None, "model, seed {seed:#x}");
                 compare(&table, seed, "sound");
+                for node in nodes_of(&table) {
+                    by_sort[node.sort as usize] += 1;
+                }
                 by_nodes[match nodes_of(&table).len() {
                     0 => 0,
                     TABLE_ROWS => 2,
@@ -57,8 +60,8 @@ fn sound_tables() {
             }
         }
     }
-    println!("sound tables, empty, in between and full: {by_nodes:?}");
-    assert!(by_nodes.iter().all(|&times| times >= 100));
+    println!("sound tables, empty, in between and full: {by_nodes:?}; nodes by sort: {by_sort:?}");
+    assert!(by_nodes.iter().chain(&by_sort).all(|&times| times >= 100));
 }
 
 #[test]

@@ -1,7 +1,7 @@
 //! Whole buffers: tables and lists as rows, and the faulty rows of a table
 //! (document 01, Rows and buffers; Refused, by the place of the check).
 
-use crate::rows::{capacity_in_range, position_in_range, Link, Node};
+use crate::rows::{capacity_in_range, position_in_range, sort_in_range, Link, Node};
 use crate::sizes::*;
 
 pub fn is_zero(bytes: &[u8]) -> bool {
@@ -32,7 +32,8 @@ pub fn is_faulty(table: &[u8], row: usize) -> bool {
     }
     let out_of_range = !position_in_range(this.horizontal)
         || !position_in_range(this.vertical)
-        || !capacity_in_range(this.capacity);
+        || !capacity_in_range(this.capacity)
+        || !sort_in_range(this.sort);
     let mut earlier = (0..row).map(|r| NODE_NUMBER.read(table_row(table, r)));
     out_of_range || earlier.any(|number| number == this.number || number == 0)
 }

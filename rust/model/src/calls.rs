@@ -7,7 +7,7 @@
 use crate::answer::{answer, Refusal};
 use crate::buffers::*;
 use crate::join::join_by_sorting;
-use crate::rows::{capacity_in_range, position_in_range, Edit, Link};
+use crate::rows::{capacity_in_range, position_in_range, sort_in_range, Edit, Link};
 use crate::sizes::*;
 
 pub fn pair(a: &[u8], b: &[u8], list: &mut [u8]) -> u32 {
@@ -193,8 +193,9 @@ fn check_fields(edit: &Edit) -> Result<(), Refusal> {
     check_number(edit.number)?;
     let positions_zero = edit.horizontal == 0 && edit.vertical == 0;
     let positions_good = position_in_range(edit.horizontal) && position_in_range(edit.vertical);
-    let capacity_zero = edit.capacity == 0;
-    let capacity_good = capacity_in_range(edit.capacity);
+    // Both bytes of the capacity field (document 02, P2).
+    let capacity_zero = edit.capacity == 0 && edit.sort == 0;
+    let capacity_good = capacity_in_range(edit.capacity) && sort_in_range(edit.sort);
     let good = match edit.kind {
         KIND_ARRIVAL => positions_good && capacity_good,
         KIND_DEPARTURE => positions_zero && capacity_zero,
@@ -256,7 +257,10 @@ fn change_table(table: &mut [u8], edit: &Edit) {
             NODE_HORIZONTAL.write_signed(table_row_mut(table, row), edit.horizontal);
             NODE_VERTICAL.write_signed(table_row_mut(table, row), edit.vertical);
         }
-        (_, Some(row)) => NODE_CAPACITY.write(table_row_mut(table, row), edit.capacity),
+        (_, Some(row)) => {
+            NODE_CAPACITY.write(table_row_mut(table, row), edit.capacity);
+            NODE_SORT.write(table_row_mut(table, row), edit.sort);
+        }
         (_, None) => unreachable!("the presence of the node was checked"),
     }
 }

@@ -1,22 +1,23 @@
 //! What has to hold of amounts and of lists, as functions (document 01, The
-//! join; The paper drawing).
+//! join; The paper drawing; document 02, P2).
 
 use crate::buffers::list_row;
-use crate::join::{pair_key, squared_distance};
+use crate::join::{form_pair, of_sort, pair_key, squared_distance};
 use crate::rows::{Link, Node};
 use crate::sizes::*;
 
-/// The amount of every pair: `amounts[i][j]` is that of `a[i]` and `b[j]`.
+/// The amount of every pair: `amounts[i][j]` is that of `a[i]` and `b[j]`, and 0
+/// where these are of unlike sorts and so no pair.
 pub type Amounts = Vec<Vec<u64>>;
 
 /// The amounts that the links give, 0 without a link; none if a link names no
-/// node, or a pair has two links.
+/// node or two that are no pair, or a pair has two links.
 pub fn amounts_of(a: &[Node], b: &[Node], links: &[Link]) -> Option<Amounts> {
     let mut amounts = vec![vec![0; b.len()]; a.len()];
     for link in links {
         let i = a.iter().position(|node| node.number == link.a)?;
         let j = b.iter().position(|node| node.number == link.b)?;
-        if amounts[i][j] != 0 {
+        if amounts[i][j] != 0 || !form_pair(&a[i], &b[j]) {
             return None;
         }
         amounts[i][j] = link.amount;
@@ -37,18 +38,18 @@ pub fn within_capacities(a: &[Node], b: &[Node], amounts: &Amounts) -> bool {
     a_within && b_within
 }
 
-/// At both nodes, their pairs up to and with this one leave something.
+/// A pair, and at both nodes, their pairs up to and with this one leave something.
 pub fn is_blocked(a: &[Node], b: &[Node], amounts: &Amounts, i: usize, j: usize) -> bool {
     let this = pair_key(&a[i], &b[j]);
     let at_a: u64 = (0..b.len())
-        .filter(|q| pair_key(&a[i], &b[*q]) <= this)
+        .filter(|q| form_pair(&a[i], &b[*q]) && pair_key(&a[i], &b[*q]) <= this)
         .map(|q| amounts[i][q])
         .sum();
     let at_b: u64 = (0..a.len())
-        .filter(|p| pair_key(&a[*p], &b[j]) <= this)
+        .filter(|p| form_pair(&a[*p], &b[j]) && pair_key(&a[*p], &b[j]) <= this)
         .map(|p| amounts[p][j])
         .sum();
-    at_a < a[i].capacity && at_b < b[j].capacity
+    form_pair(&a[i], &b[j]) && at_a < a[i].capacity && at_b < b[j].capacity
 }
 
 /// Some blocked pair, if there is one.
@@ -59,25 +60,27 @@ pub fn blocked_pair(a: &[Node], b: &[Node], amounts: &Amounts) -> Option<(usize,
         .find(|(i, j)| is_blocked(a, b, amounts, *i, *j))
 }
 
-/// The links stand in pair order, each of two known nodes, with their squared
-/// distance and an amount, and are no more than the nodes allow.
+/// The links stand in pair order, each of two known nodes of one sort, with their
+/// squared distance and an amount, and are no more than the nodes of each sort
+/// allow.
 pub fn links_well_formed(a: &[Node], b: &[Node], links: &[Link]) -> bool {
     let find = |nodes: &[Node], number| nodes.iter().copied().find(|n| n.number == number);
     let fields_right = links
         .iter()
         .all(|link| match (find(a, link.a), find(b, link.b)) {
             (Some(in_a), Some(in_b)) => {
-                link.distance == squared_distance(&in_a, &in_b) && link.amount > 0
+                let distance = squared_distance(&in_a, &in_b);
+                form_pair(&in_a, &in_b) && link.distance == distance && link.amount > 0
             }
             _ => false,
         });
     let key = |link: &Link| (link.distance, link.a, link.b);
     let in_order = links.windows(2).all(|two| key(&two[0]) < key(&two[1]));
-    let most = if a.is_empty() || b.is_empty() {
-        0
-    } else {
-        a.len() + b.len() - 1
+    let most_of = |sort: u64| match (of_sort(a, sort).len(), of_sort(b, sort).len()) {
+        (0, _) | (_, 0) => 0,
+        (nodes_a, nodes_b) => nodes_a + nodes_b - 1,
     };
+    let most: usize = (0..=SORT_MAX).map(most_of).sum();
     fields_right && in_order && links.len() <= most
 }
 
@@ -135,8 +138,8 @@ pub fn rows_ahead_same(before: &[u8], after: &[u8], master: u64, number: u64) ->
     (0..ahead).all(|row| list_row(before, row) == list_row(after, row))
 }
 
-/// Every matrix of amounts within all capacities that has no blocked pair, by
-/// trying all of them. For tiny drawings only.
+/// Every matrix of amounts of pairs within all capacities that has no blocked
+/// pair, by trying all of them. For tiny drawings only.
 pub fn all_unblocked(a: &[Node], b: &[Node]) -> Vec<Amounts> {
     let mut found = Vec::new();
     let mut amounts = vec![vec![0; b.len()]; a.len()];
@@ -153,7 +156,11 @@ fn try_all(a: &[Node], b: &[Node], amounts: &mut Amounts, place: usize, found: &
         return;
     }
     let (i, j) = (place / b.len(), place % b.len());
-    for amount in 0..=a[i].capacity.min(b[j].capacity) {
+    let most = match form_pair(&a[i], &b[j]) {
+        true => a[i].capacity.min(b[j].capacity),
+        false => 0,
+    };
+    for amount in 0..=most {
         amounts[i][j] = amount;
         try_all(a, b, amounts, place + 1, found);
     }

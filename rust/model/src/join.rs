@@ -1,7 +1,19 @@
 //! The join, three ways that must agree (document 01, The join; document 000,
-//! sections 1 and 3.4).
+//! sections 1 and 3.4; document 02, P2).
 
 use crate::rows::{Link, Node};
+use crate::sizes::SORT_MAX;
+
+/// Whether the two nodes form a pair at all: those of unlike sorts do not.
+pub fn form_pair(a: &Node, b: &Node) -> bool {
+    a.sort == b.sort
+}
+
+/// The nodes of this sort, in their order.
+pub fn of_sort(nodes: &[Node], sort: u64) -> Vec<Node> {
+    let of_sort = nodes.iter().filter(|node| node.sort == sort);
+    of_sort.copied().collect()
+}
 
 /// The square of the horizontal difference plus that of the vertical one.
 pub fn squared_distance(a: &Node, b: &Node) -> u64 {
@@ -38,7 +50,7 @@ fn earliest_pair(a: &[Node], b: &[Node], left_a: &[u64], left_b: &[u64]) -> Opti
     for &i in &open_a {
         for &j in &open_b {
             let key = pair_key(&a[i], &b[j]);
-            if key < earliest_key {
+            if form_pair(&a[i], &b[j]) && key < earliest_key {
                 earliest = Some((i, j));
                 earliest_key = key;
             }
@@ -53,7 +65,9 @@ pub fn join_by_sorting(a: &[Node], b: &[Node]) -> Vec<Link> {
     let mut pairs = Vec::with_capacity(a.len() * b.len());
     for (i, node_a) in a.iter().enumerate() {
         for (j, node_b) in b.iter().enumerate() {
-            pairs.push((pair_key(node_a, node_b), i, j));
+            if form_pair(node_a, node_b) {
+                pairs.push((pair_key(node_a, node_b), i, j));
+            }
         }
     }
     pairs.sort_unstable();
@@ -74,8 +88,18 @@ pub fn join_by_sorting(a: &[Node], b: &[Node]) -> Vec<Link> {
 
 /// Third way, document 000: every node becomes as many copies as its capacity;
 /// the closest pair of copies is taken and both are removed, one unit at a
-/// time. Units of the same pair are then written as one link.
+/// time. Units of the same pair are then written as one link. One sort after
+/// the other, as if the other were not there; the links are then put in order.
 pub fn join_by_copies(a: &[Node], b: &[Node]) -> Vec<Link> {
+    let mut links = Vec::new();
+    for sort in 0..=SORT_MAX {
+        links.extend(join_of_copies(&of_sort(a, sort), &of_sort(b, sort)));
+    }
+    links.sort_by_key(|link| (link.distance, link.a, link.b));
+    links
+}
+
+fn join_of_copies(a: &[Node], b: &[Node]) -> Vec<Link> {
     let mut copies_a = copies(a);
     let mut copies_b = copies(b);
     let mut links: Vec<Link> = Vec::new();

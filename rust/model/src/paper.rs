@@ -1,4 +1,4 @@
-//! The paper drawing (document 01, The paper drawing).
+//! The paper drawing (document 01, The paper drawing; document 02, P2).
 //!
 //! Its state is two ordered lists of nodes and nothing more. A call reaches it
 //! as lengths and as [`PaperCall`]: no type here can carry a lent table, a lent
@@ -7,7 +7,7 @@
 use crate::answer::answer_of;
 use crate::buffers::{first_faulty_row, list_of, table_of};
 use crate::join::join_by_search;
-use crate::rows::{capacity_in_range, position_in_range, Edit, Link, Node};
+use crate::rows::{capacity_in_range, position_in_range, sort_in_range, Edit, Link, Node};
 use crate::sizes::*;
 
 /// Lengths of the two tables and the list as lent.
@@ -164,6 +164,12 @@ impl PaperDrawing {
         } else {
             edit.capacity == 0
         };
+        // The sort is the other byte of the capacity field.
+        let sort_fits = if uses_capacity {
+            sort_in_range(edit.sort)
+        } else {
+            edit.sort == 0
+        };
 
         if !(KIND_ARRIVAL..=KIND_CAPACITY).contains(&edit.kind) {
             return Some(6);
@@ -175,6 +181,7 @@ impl PaperDrawing {
             || !position_fits(edit.horizontal)
             || !position_fits(edit.vertical)
             || !capacity_fits
+            || !sort_fits
         {
             return Some(8);
         }
@@ -228,6 +235,7 @@ impl PaperDrawing {
                         node.vertical = edit.vertical;
                     } else {
                         node.capacity = edit.capacity;
+                        node.sort = edit.sort;
                     }
                 }
             }

@@ -1,5 +1,5 @@
 //! Fields and rows: how nodes, links and edits stand in bytes (document 01,
-//! Rows and buffers).
+//! Rows and buffers; document 02, P2).
 
 use crate::sizes::*;
 
@@ -38,16 +38,28 @@ pub struct Node {
     pub horizontal: i64,
     pub vertical: i64,
     pub capacity: u64,
+    pub sort: u64,
 }
 
 impl Node {
+    /// An on-curve node.
     pub fn new(number: u64, horizontal: i64, vertical: i64, capacity: u64) -> Node {
         Node {
             number,
             horizontal,
             vertical,
             capacity,
+            sort: SORT_ON_CURVE,
         }
+    }
+
+    pub fn off_curve(number: u64, horizontal: i64, vertical: i64, capacity: u64) -> Node {
+        Node::new(number, horizontal, vertical, capacity).with_sort(SORT_OFF_CURVE)
+    }
+
+    /// The same node of this sort, which may be one that no node has.
+    pub fn with_sort(self, sort: u64) -> Node {
+        Node { sort, ..self }
     }
 
     pub fn read(row: &[u8]) -> Node {
@@ -56,6 +68,7 @@ impl Node {
             horizontal: NODE_HORIZONTAL.read_signed(row),
             vertical: NODE_VERTICAL.read_signed(row),
             capacity: NODE_CAPACITY.read(row),
+            sort: NODE_SORT.read(row),
         }
     }
 
@@ -65,6 +78,7 @@ impl Node {
         NODE_HORIZONTAL.write_signed(&mut row, self.horizontal);
         NODE_VERTICAL.write_signed(&mut row, self.vertical);
         NODE_CAPACITY.write(&mut row, self.capacity);
+        NODE_SORT.write(&mut row, self.sort);
         row
     }
 }
@@ -125,6 +139,7 @@ pub struct Edit {
     pub horizontal: i64,
     pub vertical: i64,
     pub capacity: u64,
+    pub sort: u64,
 }
 
 impl Edit {
@@ -136,6 +151,7 @@ impl Edit {
             horizontal: EDIT_HORIZONTAL.read_signed(bytes),
             vertical: EDIT_VERTICAL.read_signed(bytes),
             capacity: EDIT_CAPACITY.read(bytes),
+            sort: EDIT_SORT.read(bytes),
         }
     }
 
@@ -147,6 +163,7 @@ impl Edit {
         EDIT_HORIZONTAL.write_signed(&mut bytes, self.horizontal);
         EDIT_VERTICAL.write_signed(&mut bytes, self.vertical);
         EDIT_CAPACITY.write(&mut bytes, self.capacity);
+        EDIT_SORT.write(&mut bytes, self.sort);
         bytes
     }
 
@@ -158,12 +175,19 @@ impl Edit {
             horizontal: node.horizontal,
             vertical: node.vertical,
             capacity: node.capacity,
+            sort: node.sort,
         }
     }
 
     /// The node that an arrival brings.
     pub fn node(&self) -> Node {
-        Node::new(self.number, self.horizontal, self.vertical, self.capacity)
+        Node {
+            number: self.number,
+            horizontal: self.horizontal,
+            vertical: self.vertical,
+            capacity: self.capacity,
+            sort: self.sort,
+        }
     }
 
     pub fn departure(master: u64, number: u64) -> Edit {
@@ -174,6 +198,7 @@ impl Edit {
             horizontal: 0,
             vertical: 0,
             capacity: 0,
+            sort: 0,
         }
     }
 
@@ -186,12 +211,19 @@ impl Edit {
         }
     }
 
+    /// Sets the capacity and makes the node on-curve; see [`Edit::with_sort`].
     pub fn new_capacity(master: u64, number: u64, capacity: u64) -> Edit {
         Edit {
             kind: KIND_CAPACITY,
             capacity,
+            sort: SORT_ON_CURVE,
             ..Edit::departure(master, number)
         }
+    }
+
+    /// The same edit with this sort, sensible for its kind or not.
+    pub fn with_sort(self, sort: u64) -> Edit {
+        Edit { sort, ..self }
     }
 }
 
@@ -201,4 +233,8 @@ pub fn position_in_range(position: i64) -> bool {
 
 pub fn capacity_in_range(capacity: u64) -> bool {
     (CAPACITY_MIN..=CAPACITY_MAX).contains(&capacity)
+}
+
+pub fn sort_in_range(sort: u64) -> bool {
+    sort <= SORT_MAX
 }

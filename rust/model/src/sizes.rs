@@ -1,5 +1,6 @@
 //! Every size, width, offset and range of document 01 ("Rows and buffers",
-//! "Calls", "Cases"). A change of them touches this file alone.
+//! "Calls", "Cases") and of document 02, P2. A change of them touches this file
+//! alone.
 //!
 //! Outside the rows all values are held in 64 bits, so that no other file
 //! depends on a width.
@@ -43,7 +44,9 @@ pub const NODE_BYTES: usize = 8;
 pub const NODE_NUMBER: Field = Field::new(0, 2);
 pub const NODE_HORIZONTAL: Field = Field::new(2, 2);
 pub const NODE_VERTICAL: Field = Field::new(4, 2);
-pub const NODE_CAPACITY: Field = Field::new(6, 2);
+// The capacity field of two bytes, low and high (document 02, P2).
+pub const NODE_CAPACITY: Field = Field::new(6, 1);
+pub const NODE_SORT: Field = Field::new(7, 1);
 
 // Table.
 pub const TABLE_ROWS: usize = 512;
@@ -67,7 +70,8 @@ pub const EDIT_MASTER: Field = Field::new(1, 1);
 pub const EDIT_NUMBER: Field = Field::new(2, 2);
 pub const EDIT_HORIZONTAL: Field = Field::new(4, 2);
 pub const EDIT_VERTICAL: Field = Field::new(6, 2);
-pub const EDIT_CAPACITY: Field = Field::new(8, 2);
+pub const EDIT_CAPACITY: Field = Field::new(8, 1);
+pub const EDIT_SORT: Field = Field::new(9, 1);
 
 // Kinds of edit.
 pub const KIND_ARRIVAL: u64 = 1;
@@ -86,6 +90,11 @@ pub const POSITION_MIN: i64 = -16_384;
 pub const POSITION_MAX: i64 = 16_384;
 pub const CAPACITY_MIN: u64 = 1;
 pub const CAPACITY_MAX: u64 = 64;
+
+// Sorts of node.
+pub const SORT_ON_CURVE: u64 = 0;
+pub const SORT_OFF_CURVE: u64 = 1;
+pub const SORT_MAX: u64 = SORT_OFF_CURVE;
 
 // Counts of Bands.
 pub const BANDS: usize = 33;
@@ -113,7 +122,8 @@ const _: () = {
     assert!(NODE_HORIZONTAL.offset == NODE_NUMBER.end());
     assert!(NODE_VERTICAL.offset == NODE_HORIZONTAL.end());
     assert!(NODE_CAPACITY.offset == NODE_VERTICAL.end());
-    assert!(NODE_BYTES == NODE_CAPACITY.end());
+    assert!(NODE_SORT.offset == NODE_CAPACITY.end());
+    assert!(NODE_BYTES == NODE_SORT.end());
     assert!(TABLE_BYTES == TABLE_ROWS * NODE_BYTES);
 
     assert!(LINK_B.offset == LINK_A.end());
@@ -128,10 +138,13 @@ const _: () = {
     assert!(EDIT_HORIZONTAL.offset == EDIT_NUMBER.end());
     assert!(EDIT_VERTICAL.offset == EDIT_HORIZONTAL.end());
     assert!(EDIT_CAPACITY.offset == EDIT_VERTICAL.end());
-    assert!(EDIT_BYTES == EDIT_CAPACITY.end());
+    assert!(EDIT_SORT.offset == EDIT_CAPACITY.end());
+    assert!(EDIT_BYTES == EDIT_SORT.end());
 
     // Kinds follow each other without a gap.
     assert!(KIND_CAPACITY == KIND_ARRIVAL + 3);
+    assert!(CAPACITY_MAX < NODE_CAPACITY.greatest());
+    assert!(SORT_MAX < NODE_SORT.greatest());
     assert!(NUMBER_MAX == NODE_NUMBER.greatest());
     assert!(NUMBER_MAX == NumberArgument::MAX as u64);
     assert!(BANDS == LINK_DISTANCE.width * BITS_PER_BYTE + 1);

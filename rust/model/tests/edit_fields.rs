@@ -50,18 +50,26 @@ fn fields_of_an_edit_at_every_bound() {
         (CAPACITY_MIN, true),
         (CAPACITY_MAX, true),
         (CAPACITY_MAX + 1, false),
-        (1 << BITS_PER_BYTE, false),
         (EDIT_CAPACITY.greatest(), false),
     ];
+    let sorts = [
+        (SORT_ON_CURVE, true),
+        (SORT_OFF_CURVE, true),
+        (SORT_MAX + 1, false),
+        (EDIT_SORT.greatest(), false),
+    ];
+    let all = capacities.map(|capacity| sorts.map(|sort| (capacity, sort)));
     for (horizontal, horizontal_good) in positions {
         for (vertical, vertical_good) in positions {
-            for (capacity, capacity_good) in capacities {
+            for ((capacity, capacity_good), (sort, sort_good)) in all.into_iter().flatten() {
+                let capacity_good = capacity_good && sort_good;
+                let capacity_zero = capacity == 0 && sort == 0;
                 let place_good = horizontal_good && vertical_good;
                 let place_zero = horizontal == 0 && vertical == 0;
                 let expected = [
                     (KIND_ARRIVAL, 3, place_good && capacity_good),
-                    (KIND_DEPARTURE, 1, place_zero && capacity == 0),
-                    (KIND_MOVE, 1, place_good && capacity == 0),
+                    (KIND_DEPARTURE, 1, place_zero && capacity_zero),
+                    (KIND_MOVE, 1, place_good && capacity_zero),
                     (KIND_CAPACITY, 1, place_zero && capacity_good),
                 ];
                 for (kind, number, good) in expected {
@@ -72,6 +80,7 @@ fn fields_of_an_edit_at_every_bound() {
                         horizontal,
                         vertical,
                         capacity,
+                        sort,
                     };
                     let expected = if good { 0 } else { 8 };
                     assert_eq!(number_of_edit(edit), expected, "{edit:?}");

@@ -5,7 +5,9 @@ use model::answer::number_of;
 use model::buffers::{links_of, list_of, table_of};
 use model::calls;
 use model::checks::fault_of_exchange;
-use model::generate::drawing::{each_drawing, Capacities, Drawing, Size, CAPACITIES, NUMBERS};
+use model::generate::drawing::{
+    each_drawing, Capacities, Drawing, Size, CAPACITIES, NUMBERS, SORTS,
+};
 use model::generate::edits::unknown_number;
 use model::generate::places::{Family, FAMILIES};
 use model::generate::random::Random;
@@ -67,6 +69,10 @@ struct Seen {
     /// Of these, drawings with unlike distances, where sets hide a wrong order.
     reordered_with_distances: u64,
     unlike_amounts: u64,
+    /// Drawings with links of both sorts.
+    both_sorts: u64,
+    /// Drawings with nodes in both masters, and no two of one sort.
+    apart: u64,
     one_empty: u64,
     both_empty: u64,
     /// Masters, not drawings.
@@ -87,6 +93,11 @@ impl Seen {
         self.reordered_with_distances += u64::from(reordered && distances);
         self.unlike_amounts += u64::from(differ(|link| link.amount));
         self.links += links.len() as u64;
+        let sort_of = |link: &Link| drawing.a.iter().find(|node| node.number == link.a);
+        let sorts = links.iter().filter_map(sort_of).map(|node| node.sort);
+        self.both_sorts += u64::from(sorts.clone().min() < sorts.max());
+        let no_link = links.is_empty() && !drawing.a.is_empty() && !drawing.b.is_empty();
+        self.apart += u64::from(no_link);
         let sizes = [drawing.a.len(), drawing.b.len()];
         let masters_of = |size: usize| sizes.iter().filter(|s| **s == size).count() as u64;
         self.one_empty += u64::from(masters_of(0) == 1);
@@ -164,6 +175,7 @@ fn small_drawings_exchanged() {
     assert!(seen.reordered > 2_000 && seen.reordered_with_distances > 1_500);
     assert!(seen.unlike_amounts > 6_000 && seen.something_left > 60_000);
     assert!(seen.one_empty > 4_000 && seen.both_empty > 400);
+    assert!(seen.both_sorts > 2_000 && seen.apart > 2_000);
     let spares = [0, 7, 8, 9].map(|number| seen.spare.times("Spare", number));
     assert!(spares.iter().all(|times| *times > 30_000));
 }
@@ -188,7 +200,9 @@ fn great_drawings_exchanged() {
     for (place, (family, size, capacities, every)) in plan.iter().copied().enumerate() {
         let seed = 8_500_000 + place as u64;
         let numbers = NUMBERS[place % NUMBERS.len()];
-        let drawing = Drawing::of(&mut Random::new(seed), family, size, capacities, numbers);
+        let sorts = SORTS[place % SORTS.len()];
+        let mut random = Random::new(seed);
+        let drawing = Drawing::of_sorts(&mut random, family, size, capacities, numbers, sorts);
         exchange_holds(seed, &drawing, every, &mut seen);
     }
     println!(
@@ -204,6 +218,22 @@ fn great_drawings_exchanged() {
 fn tied_rows_change_places() {
     let a = [Node::new(1, 0, 0, 3), Node::new(2, 10, 0, 1)];
     let b = [Node::new(1, 11, 0, 1), Node::new(2, 1, 0, 3)];
+    let (a, b) = (table_of(&a), table_of(&b));
+    let one_way = Paired::new(&a, &b, FILLED);
+    let opposite = Paired::new(&b, &a, FILLED_OPPOSITE);
+    let links = [Link::new(1, 2, 1, 3), Link::new(2, 1, 1, 1)];
+    let opposite_links = [Link::new(1, 2, 1, 1), Link::new(2, 1, 1, 3)];
+    assert_eq!(one_way.links(), links);
+    assert_eq!(opposite.links(), opposite_links);
+    assert_eq!(fault_of_exchange(&links, &opposite_links), None);
+}
+
+/// The same with sorts: the tied rows are of unlike sorts, and pairs between
+/// them that would be nearer are none in either order.
+#[test]
+fn tied_rows_of_unlike_sorts_change_places() {
+    let a = [Node::new(1, 0, 0, 3), Node::off_curve(2, 1, 0, 1)];
+    let b = [Node::off_curve(1, 0, 0, 1), Node::new(2, 1, 0, 3)];
     let (a, b) = (table_of(&a), table_of(&b));
     let one_way = Paired::new(&a, &b, FILLED);
     let opposite = Paired::new(&b, &a, FILLED_OPPOSITE);

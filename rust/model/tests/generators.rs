@@ -108,6 +108,8 @@ fn paper_begins_from_accepted_masters_only() {
         capacity: CAPACITY_MAX + 1,
         ..good
     }]));
+    assert!(begins(vec![good.with_sort(SORT_MAX)]));
+    assert!(!begins(vec![good.with_sort(SORT_MAX + 1)]));
 }
 
 #[test]

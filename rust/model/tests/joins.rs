@@ -4,10 +4,10 @@
 use model::buffers::{links_of, list_of, list_row_mut};
 use model::calls;
 use model::checks::*;
-use model::generate::drawing::{each_drawing, Drawing, Size, CAPACITIES, NUMBERS};
+use model::generate::drawing::{each_drawing, Drawing, Size, CAPACITIES, NUMBERS, SORTS};
 use model::generate::places::FAMILIES;
 use model::generate::random::Random;
-use model::join::{join_by_copies, join_by_search, join_by_sorting};
+use model::join::{form_pair, join_by_copies, join_by_search, join_by_sorting};
 use model::rows::{Link, Node};
 use model::sizes::*;
 
@@ -63,7 +63,9 @@ fn three_ways_agree_on_great_drawings() {
         let seed = 3_000_000 + full;
         let mut random = Random::new(seed);
         let capacities = CAPACITIES[full as usize % CAPACITIES.len()];
-        let drawing = Drawing::of(&mut random, family, Size::Full, capacities, NUMBERS[0]);
+        let (size, numbers) = (Size::Full, NUMBERS[0]);
+        let sorts = SORTS[full as usize % SORTS.len()];
+        let drawing = Drawing::of_sorts(&mut random, family, size, capacities, numbers, sorts);
         joins_agree(seed, &drawing);
         full += 1;
     }
@@ -147,6 +149,7 @@ fn only_the_join_has_no_blocked_pair() {
 /// How many matrices the search by force goes through.
 fn tried(a: &[Node], b: &[Node]) -> u64 {
     let pairs = a.iter().flat_map(|x| b.iter().map(move |y| (x, y)));
+    let pairs = pairs.filter(|(x, y)| form_pair(x, y));
     pairs.map(|(x, y)| x.capacity.min(y.capacity) + 1).product()
 }
 

@@ -7,6 +7,8 @@ use model::buffers::nodes_of;
 use model::engine::{Buffers, Call, Engine, Model, Ran, Request};
 use model::generate::random::Random;
 use model::report::hex;
+use model::rows::Edit;
+use model::sizes::KIND_CAPACITY;
 
 use crate::lent::Lent;
 use crate::tally::Tally;
@@ -63,6 +65,22 @@ fn difference(got: &Buffers, right: &Buffers) -> Option<String> {
     })
 }
 
+/// Whether a node has another sort than before the call.
+fn gives_another_sort(request: &Request, ran: &Ran) -> bool {
+    let Request::Edit { edit } = request else {
+        return false;
+    };
+    if number_of(ran.answer) != 0 || Edit::read(edit).kind != KIND_CAPACITY {
+        return false;
+    }
+    let sorts = |table: &[u8]| -> Vec<u64> {
+        let nodes = nodes_of(table).into_iter();
+        nodes.map(|node| node.sort).collect()
+    };
+    let (before, after) = (&ran.before, &ran.after);
+    sorts(&before.a) != sorts(&after.a) || sorts(&before.b) != sorts(&after.b)
+}
+
 /// Runs the case on both, counts it, and gives what the model left behind.
 pub fn judge(
     random: &mut Random,
@@ -91,5 +109,8 @@ pub fn judge(
         _ => case.nodes,
     };
     tally.count(request, number_of(ran.answer), nodes);
+    if gives_another_sort(request, &ran) {
+        tally.count_other_sort(nodes);
+    }
     Ok(ran)
 }

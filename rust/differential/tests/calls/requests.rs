@@ -97,10 +97,11 @@ fn spoiled(random: &mut Random, number: u32, a: &[Node], b: &[Node]) -> Option<E
         bad_edit(random, bad, a, b)
     })?;
     if number == 8 || random.once_in(2) {
-        match random.below(4) {
+        match random.below(5) {
             0 => edit.number = 0,
             1 => edit.horizontal = bad_position(random),
             2 => edit.vertical = bad_position(random),
+            3 => edit.sort = bad_sort(random),
             _ => edit.capacity = random.pick(&[CAPACITY_MAX + 1, EDIT_CAPACITY.greatest()]),
         }
     }

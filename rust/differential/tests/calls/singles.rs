@@ -1,6 +1,7 @@
 //! Single calls on one drawing: for every number that a call can give, a case that should be given it. Places that
 //! come later in the order of the checks are often bad too, so that the order itself is tested.
 
+use model::buffers::{is_zero, list_row};
 use model::calls;
 use model::generate::damage::*;
 use model::generate::drawing::{Drawing, Size};
@@ -71,6 +72,10 @@ impl Held {
         a.len() == TABLE_ROWS || b.len() == TABLE_ROWS
     }
 
+    fn has_link(&self) -> bool {
+        !is_zero(list_row(&self.list, 0))
+    }
+
     /// The same without one node of a full master, if there is one.
     fn with_room(&self, random: &mut Random) -> Held {
         let mut drawing = self.drawing.clone();
@@ -94,7 +99,9 @@ pub fn run(random: &mut Random, wanted: Class, tally: &mut Tally) -> Result<(), 
             let arrives = call == "Edit" && *number == 0 && random.once_in(KINDS.len() as u64);
             let other = match number {
                 0 if arrives => Some(held.with_room(random)),
-                10 if !held.is_full() => Some(full(random, wanted)),
+                // Masters of unlike sorts have no link, and no list is then unfinished.
+                5 if !held.has_link() => Some(drawn(random, wanted, Held::has_link)),
+                10 if !held.is_full() => Some(drawn(random, wanted, Held::is_full)),
                 _ => None,
             };
             let held = other.as_ref().unwrap_or(&held);
@@ -106,11 +113,11 @@ pub fn run(random: &mut Random, wanted: Class, tally: &mut Tally) -> Result<(), 
     Ok(())
 }
 
-/// A drawing of this class with a full master.
-fn full(random: &mut Random, wanted: Class) -> Held {
+/// A drawing of this class that is as it should be.
+fn drawn(random: &mut Random, wanted: Class, right: fn(&Held) -> bool) -> Held {
     loop {
         let held = Held::new(drawing(random, wanted));
-        if held.is_full() {
+        if right(&held) {
             return held;
         }
     }

@@ -64,6 +64,8 @@ pub struct Tally {
     cells: BTreeMap<Cell, u64>,
     /// Done edits by kind, on drawings that are full on both sides before or after.
     full_edits: BTreeMap<u64, u64>,
+    /// Done edits that gave a node another sort, by the size of the drawing.
+    other_sorts: BTreeMap<Class, u64>,
 }
 
 impl Tally {
@@ -80,12 +82,19 @@ impl Tally {
         }
     }
 
+    pub fn count_other_sort(&mut self, nodes: (usize, usize)) {
+        *self.other_sorts.entry(class(nodes)).or_default() += 1;
+    }
+
     pub fn add(&mut self, other: &Tally) {
         for (cell, times) in &other.cells {
             *self.cells.entry(*cell).or_default() += times;
         }
         for (kind, times) in &other.full_edits {
             *self.full_edits.entry(*kind).or_default() += times;
+        }
+        for (class, times) in &other.other_sorts {
+            *self.other_sorts.entry(*class).or_default() += times;
         }
     }
 
@@ -119,6 +128,13 @@ impl Tally {
         rare
     }
 
+    /// The sizes at which no node got another sort.
+    pub fn sorts_kept(&self) -> Vec<Class> {
+        let mut classes = CLASSES.map(|(class, _)| class).to_vec();
+        classes.retain(|class| !self.other_sorts.contains_key(class));
+        classes
+    }
+
     /// The kinds of which no edit was done at full size.
     pub fn kinds_missed(&self) -> Vec<u64> {
         let met = |kind: &u64| self.full_edits.contains_key(kind);
@@ -146,6 +162,8 @@ impl Display for Tally {
         let kinds = KINDS.map(|kind| self.full_edits.get(&kind).copied().unwrap_or(0));
         let (calls, done) = (self.calls(), self.done());
         writeln!(out, "done edits at 512 x 512, by kind: {kinds:?}")?;
+        let other_sorts = &self.other_sorts;
+        writeln!(out, "nodes that got another sort, by size: {other_sorts:?}")?;
         write!(out, "calls: {calls}, of these done: {done}")
     }
 }

@@ -4,6 +4,7 @@
 use model::buffers::{list_of, table_of};
 use model::engine::Request;
 use model::generate::random::Random;
+use model::generate::sorts::BOTH_SORTS;
 use model::join::join_by_search;
 use model::rows::{Edit, Node};
 use model::sizes::*;
@@ -14,23 +15,41 @@ use crate::tally::Tally;
 pub struct World {
     places: &'static [(i64, i64)],
     capacities: &'static [u64],
+    sorts: &'static [u64],
     /// The most nodes of a master.
     most: usize,
     /// Whether A has its numbers in both orders, or falling only; those of B rise.
     both_orders: bool,
 }
 
-/// Three places with ties between them; three on a line, where an arrival starts a chain.
-pub const WORLDS: [World; 2] = [
+/// Three places with ties between them; three on a line, where an arrival starts a chain; and two places with nodes of
+/// both sorts, which may change theirs.
+pub const WORLDS: [World; 4] = [
     World {
         places: &[(0, 0), (1, 0), (0, 1)],
         capacities: &[1, 2],
+        sorts: &[SORT_ON_CURVE],
         most: 2,
         both_orders: true,
     },
     World {
         places: &[(0, 0), (1, 0), (3, 0)],
         capacities: &[1],
+        sorts: &[SORT_ON_CURVE],
+        most: 3,
+        both_orders: false,
+    },
+    World {
+        places: &[(0, 0), (1, 0)],
+        capacities: &[1, 2],
+        sorts: &BOTH_SORTS,
+        most: 2,
+        both_orders: true,
+    },
+    World {
+        places: &[(0, 0), (1, 0)],
+        capacities: &[1],
+        sorts: &BOTH_SORTS,
         most: 3,
         both_orders: false,
     },
@@ -60,11 +79,21 @@ impl World {
     fn nodes(&self, number: u64) -> Vec<Node> {
         let mut nodes = Vec::new();
         for (horizontal, vertical) in self.places {
-            for capacity in self.capacities {
-                nodes.push(Node::new(number, *horizontal, *vertical, *capacity));
+            for (capacity, sort) in self.fields() {
+                let node = Node::new(number, *horizontal, *vertical, capacity);
+                nodes.push(node.with_sort(sort));
             }
         }
         nodes
+    }
+
+    /// Every capacity with every sort.
+    fn fields(&self) -> Vec<(u64, u64)> {
+        let mut fields = Vec::new();
+        for capacity in self.capacities {
+            fields.extend(self.sorts.iter().map(|sort| (*capacity, *sort)));
+        }
+        fields
     }
 
     /// Every A of the world.
@@ -98,8 +127,9 @@ impl World {
                 for (horizontal, vertical) in self.places {
                     edits.push(Edit::moved(master, number, *horizontal, *vertical));
                 }
-                for capacity in self.capacities {
-                    edits.push(Edit::new_capacity(master, number, *capacity));
+                for (capacity, sort) in self.fields() {
+                    let edit = Edit::new_capacity(master, number, capacity);
+                    edits.push(edit.with_sort(sort));
                 }
             }
         }

@@ -1,9 +1,9 @@
-//! What the comparison of joins counts: drawings by family, capacities and size.
+//! What the comparison of joins counts: drawings by family, capacities, sorts and size.
 
 use std::collections::BTreeMap;
 use std::fmt::{Display, Formatter, Result};
 
-use model::generate::drawing::{Capacities, Drawing, CAPACITIES};
+use model::generate::drawing::{Capacities, Drawing, Sorts, CAPACITIES, SORTS};
 use model::generate::places::{Family, FAMILIES};
 use model::join::join_by_sorting;
 use model::rows::{Link, Node};
@@ -56,9 +56,15 @@ pub fn numbers_decide(drawing: &Drawing, links: &[Link]) -> bool {
 
 type Cell = (Family, Capacities, &'static str);
 
+type SortsCell = (Family, Sorts, &'static str);
+
 #[derive(Default)]
 pub struct Tally {
     cells: BTreeMap<Cell, u64>,
+    sorts: BTreeMap<SortsCell, u64>,
+    /// Drawings with a link, and with links of both sorts.
+    linked: u64,
+    of_both_sorts: u64,
     links: BTreeMap<Family, usize>,
     decided: BTreeMap<Family, u64>,
 }
@@ -67,6 +73,13 @@ impl Tally {
     pub fn count(&mut self, drawing: &Drawing, links: &[Link]) {
         let cell = (drawing.family, drawing.capacities, class(drawing));
         *self.cells.entry(cell).or_default() += 1;
+        let sorts = (drawing.family, drawing.sorts, class(drawing));
+        *self.sorts.entry(sorts).or_default() += 1;
+        let sort = |link: &Link| drawing.a.iter().find(|node| node.number == link.a);
+        let mut linked = links.iter().filter_map(sort).map(|node| node.sort);
+        let first = linked.next();
+        self.linked += u64::from(first.is_some());
+        self.of_both_sorts += u64::from(linked.any(|sort| Some(sort) != first));
         *self.links.entry(drawing.family).or_default() += links.len();
         let decided = self.decided.entry(drawing.family).or_default();
         *decided += u64::from(numbers_decide(drawing, links));
@@ -74,6 +87,11 @@ impl Tally {
 
     pub fn drawings(&self) -> u64 {
         self.cells.values().sum()
+    }
+
+    /// Drawings with a link.
+    pub fn linked(&self) -> u64 {
+        self.linked
     }
 
     /// Drawings in which ties decide.
@@ -92,6 +110,18 @@ impl Tally {
         cells
     }
 
+    /// Choices of sorts that a family has not met in a class.
+    pub fn empty_sorts(&self) -> Vec<SortsCell> {
+        let mut cells = Vec::new();
+        for family in FAMILIES {
+            for sorts in SORTS {
+                cells.extend(CLASSES.map(|class| (family, sorts, class)));
+            }
+        }
+        cells.retain(|cell| !self.sorts.contains_key(cell));
+        cells
+    }
+
     fn times(&self, family: Family, class: &str) -> u64 {
         let cells = CAPACITIES.map(|capacities| self.cells.get(&(family, capacities, class)));
         cells.into_iter().flatten().sum()
@@ -101,7 +131,11 @@ impl Tally {
 /// A line for each family: drawings by size, links, drawings in which ties decide.
 impl Display for Tally {
     fn fmt(&self, out: &mut Formatter<'_>) -> Result {
-        writeln!(out, "joins compared: {}", self.drawings())?;
+        let (drawings, linked, both) = (self.drawings(), self.linked, self.of_both_sorts);
+        writeln!(
+            out,
+            "joins compared: {drawings}, {linked} with links, {both} with links of both sorts"
+        )?;
         for family in FAMILIES {
             write!(out, "{:<11}", format!("{family:?}"))?;
             for class in CLASSES {

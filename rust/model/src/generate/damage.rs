@@ -1,8 +1,9 @@
 //! Damage to accepted tables and finished lists, with the row at fault, which
 //! follows from how the damage was done and not from a check of the result.
 
-use super::edits::{bad_capacity, bad_position, unknown_number};
+use super::edits::{bad_capacity, bad_position, bad_sort, unknown_number};
 use super::random::Random;
+use super::sorts::BOTH_SORTS;
 use crate::buffers::*;
 use crate::rows::Node;
 use crate::sizes::*;
@@ -13,6 +14,8 @@ pub enum TableFault {
     Horizontal,
     Vertical,
     Capacity,
+    /// A sort that no node has, the capacity as it was.
+    Sort,
     /// The number of an earlier row.
     Repeated,
     /// The number 0 in a row that is not zero.
@@ -25,10 +28,11 @@ pub enum TableFault {
     StrayByte,
 }
 
-pub const TABLE_FAULTS: [TableFault; 8] = [
+pub const TABLE_FAULTS: [TableFault; 9] = [
     TableFault::Horizontal,
     TableFault::Vertical,
     TableFault::Capacity,
+    TableFault::Sort,
     TableFault::Repeated,
     TableFault::NumberZero,
     TableFault::AfterGap,
@@ -90,16 +94,13 @@ fn put_fault(random: &mut Random, table: &mut [u8], fault: TableFault, row: usiz
         TableFault::Horizontal => NODE_HORIZONTAL.write_signed(this, bad_position(random)),
         TableFault::Vertical => NODE_VERTICAL.write_signed(this, bad_position(random)),
         TableFault::Capacity => NODE_CAPACITY.write(this, bad_capacity(random)),
+        TableFault::Sort => NODE_SORT.write(this, bad_sort(random)),
         TableFault::Repeated => NODE_NUMBER.write(this, earlier_number),
         TableFault::NumberZero => NODE_NUMBER.write(this, 0),
         TableFault::AfterGap => table_row_mut(table, row - 1).fill(0),
         TableFault::Late => {
-            let node = Node {
-                number: unknown_number(random, &nodes),
-                horizontal: 0,
-                vertical: 0,
-                capacity: CAPACITY_MIN,
-            };
+            let number = unknown_number(random, &nodes);
+            let node = Node::new(number, 0, 0, CAPACITY_MIN).with_sort(random.pick(&BOTH_SORTS));
             this.copy_from_slice(&node.bytes());
         }
         TableFault::StrayByte => this[random.size(0, NODE_BYTES - 1)] = some_byte(random),

@@ -4,6 +4,7 @@ use std::fmt::{Display, Formatter};
 
 use super::places::{places, Family, Place, FAMILIES};
 use super::random::Random;
+pub use super::sorts::{Sorts, SORTS};
 use crate::buffers::table_of;
 use crate::report::hex;
 use crate::rows::Node;
@@ -116,6 +117,7 @@ pub struct Drawing {
     pub size: Size,
     pub capacities: Capacities,
     pub numbers: Numbers,
+    pub sorts: Sorts,
     pub a: Vec<Node>,
     pub b: Vec<Node>,
 }
@@ -126,10 +128,11 @@ impl Drawing {
         let family = random.pick(&FAMILIES);
         let capacities = random.pick(&CAPACITIES);
         let numbers = random.pick(&NUMBERS);
-        Drawing::of(random, family, size, capacities, numbers)
+        let sorts = random.pick(&SORTS);
+        Drawing::of_sorts(random, family, size, capacities, numbers, sorts)
     }
 
-    /// A drawing of these classes.
+    /// A drawing of these classes, all on-curve.
     pub fn of(
         random: &mut Random,
         family: Family,
@@ -137,15 +140,33 @@ impl Drawing {
         capacities: Capacities,
         numbers: Numbers,
     ) -> Drawing {
+        Drawing::of_sorts(random, family, size, capacities, numbers, Sorts::OnCurve)
+    }
+
+    /// A drawing of these classes.
+    pub fn of_sorts(
+        random: &mut Random,
+        family: Family,
+        size: Size,
+        capacities: Capacities,
+        numbers: Numbers,
+        sorts: Sorts,
+    ) -> Drawing {
         let (count_a, count_b) = size.counts(random);
-        let (places_a, places_b) = places(random, family, count_a, count_b);
-        let a = master(random, &places_a, capacities, numbers);
-        let b = master(random, &places_b, capacities, numbers);
+        let (mut places_a, mut places_b) = places(random, family, count_a, count_b);
+        sorts.place_handles(random, family, &mut places_a);
+        sorts.place_handles(random, family, &mut places_b);
+        let mut a = master(random, &places_a, capacities, numbers);
+        let mut b = master(random, &places_b, capacities, numbers);
+        let (sorts_a, sorts_b) = sorts.sorts(random, count_a, count_b);
+        set_sorts(&mut a, &sorts_a);
+        set_sorts(&mut b, &sorts_b);
         Drawing {
             family,
             size,
             capacities,
             numbers,
+            sorts,
             a,
             b,
         }
@@ -161,17 +182,27 @@ impl Drawing {
 }
 
 /// Calls the test with drawings of every class, as often for each size as the
-/// plan says, and gives their number. Seeds count up from the start.
+/// plan says, and gives their number. Seeds count up from the start. The sorts
+/// take turns, so that each family meets them all, however few drawings it has.
 pub fn each_drawing(start: u64, plan: &[(Size, u64)], mut test: impl FnMut(u64, &Drawing)) -> u64 {
     let mut drawings = 0;
     for (size, repeats) in plan {
-        for family in FAMILIES {
+        for (place, family) in FAMILIES.into_iter().enumerate() {
             for capacities in CAPACITIES {
                 for numbers in NUMBERS {
                     for _ in 0..*repeats {
                         let seed = start + drawings;
                         let mut random = Random::new(seed);
-                        let drawing = Drawing::of(&mut random, family, *size, capacities, numbers);
+                        // Off by the family, or else a choice would keep to one class.
+                        let sorts = SORTS[(drawings as usize + place) % SORTS.len()];
+                        let drawing = Drawing::of_sorts(
+                            &mut random,
+                            family,
+                            *size,
+                            capacities,
+                            numbers,
+                            sorts,
+                        );
                         test(seed, &drawing);
                         drawings += 1;
                     }
@@ -189,13 +220,16 @@ fn master(
     numbers: Numbers,
 ) -> Vec<Node> {
     let numbers = numbers.numbers(random, places.len());
-    let node = |(number, (horizontal, vertical)): (u64, &Place)| Node {
-        number,
-        horizontal: *horizontal,
-        vertical: *vertical,
-        capacity: capacities.capacity(random),
+    let node = |(number, (horizontal, vertical)): (u64, &Place)| {
+        Node::new(number, *horizontal, *vertical, capacities.capacity(random))
     };
     numbers.into_iter().zip(places).map(node).collect()
+}
+
+fn set_sorts(nodes: &mut [Node], sorts: &[u64]) {
+    for (node, sort) in nodes.iter_mut().zip(sorts) {
+        node.sort = *sort;
+    }
 }
 
 /// The labels, and the tables in hex.
@@ -206,11 +240,12 @@ impl Display for Drawing {
             size,
             capacities,
             numbers,
+            sorts,
             ..
         } = self;
         writeln!(
             out,
-            "{family:?} {size:?} capacities {capacities:?} numbers {numbers:?}"
+            "{family:?} {size:?} capacities {capacities:?} numbers {numbers:?} sorts {sorts:?}"
         )?;
         writeln!(out, "table A {}", hex(&self.table_a()))?;
         write!(out, "table B {}", hex(&self.table_b()))

@@ -1,8 +1,10 @@
 //! Edits for a drawing: such as will be done, and such as will be refused for
 //! one bad thing in them.
 
-use super::places::{anywhere, extreme, near, Place};
+pub use super::fields::{bad_capacity, bad_position, bad_sort, unknown_number};
+use super::fields::{destination, newcomer, some_capacity, some_sort};
 use super::random::Random;
+use super::sorts::BOTH_SORTS;
 use crate::answer::Refusal;
 use crate::rows::{Edit, Node};
 use crate::sizes::*;
@@ -19,18 +21,24 @@ pub enum BadEdit {
     NotZero,
     /// A field that is used is out of range.
     OutOfRange,
+    /// A sort that no node has, in an arrival or a new capacity.
+    Sort,
+    /// A sort in a departure or a move, and all else as it must be.
+    SortNotZero,
     /// An arrival of a known number, or any other edit of an unknown one.
     Presence,
     /// An arrival into a full master.
     Full,
 }
 
-pub const BAD_EDITS: [BadEdit; 7] = [
+pub const BAD_EDITS: [BadEdit; 9] = [
     BadEdit::Kind,
     BadEdit::Master,
     BadEdit::NumberZero,
     BadEdit::NotZero,
     BadEdit::OutOfRange,
+    BadEdit::Sort,
+    BadEdit::SortNotZero,
     BadEdit::Presence,
     BadEdit::Full,
 ];
@@ -41,7 +49,11 @@ impl BadEdit {
         match self {
             BadEdit::Kind => Refusal::Kind,
             BadEdit::Master => Refusal::Master,
-            BadEdit::NumberZero | BadEdit::NotZero | BadEdit::OutOfRange => Refusal::Field,
+            BadEdit::NumberZero
+            | BadEdit::NotZero
+            | BadEdit::OutOfRange
+            | BadEdit::Sort
+            | BadEdit::SortNotZero => Refusal::Field,
             BadEdit::Presence => Refusal::Presence,
             BadEdit::Full => Refusal::Full,
         }
@@ -76,7 +88,15 @@ pub fn good_edit(random: &mut Random, kind: u64, a: &[Node], b: &[Node]) -> Opti
             };
             Edit::moved(master, node.number, horizontal, vertical)
         }
-        _ => Edit::new_capacity(master, node.number, some_capacity(random)),
+        _ => {
+            // Half of them change the sort, some of these nothing else.
+            let sort = random.pick(&BOTH_SORTS);
+            let capacity = match random.once_in(4) {
+                true => node.capacity,
+                false => some_capacity(random),
+            };
+            Edit::new_capacity(master, node.number, capacity).with_sort(sort)
+        }
     })
 }
 
@@ -115,6 +135,18 @@ pub fn bad_edit(random: &mut Random, bad: BadEdit, a: &[Node], b: &[Node]) -> Op
             let edit = good_edit(random, kind, a, b)?;
             Some(out_of_range(random, edit))
         }
+        BadEdit::Sort => {
+            let kind = random.pick(&[KIND_ARRIVAL, KIND_CAPACITY]);
+            let edit = good_edit(random, kind, a, b)?;
+            Some(edit.with_sort(bad_sort(random)))
+        }
+        BadEdit::SortNotZero => {
+            let kind = random.pick(&[KIND_DEPARTURE, KIND_MOVE]);
+            let edit = good_edit(random, kind, a, b)?;
+            let bad = bad_sort(random);
+            let sort = random.pick(&[SORT_OFF_CURVE, bad]);
+            Some(edit.with_sort(sort))
+        }
         BadEdit::Presence => bad_presence(random, a, b),
         BadEdit::Full => {
             let masters = [(MASTER_A, a), (MASTER_B, b)];
@@ -131,37 +163,6 @@ pub fn bad_edit(random: &mut Random, bad: BadEdit, a: &[Node], b: &[Node]) -> Op
     }
 }
 
-/// A position that no node may have.
-pub fn bad_position(random: &mut Random) -> i64 {
-    random.pick(&[
-        POSITION_MIN - 1,
-        POSITION_MAX + 1,
-        NODE_HORIZONTAL.least_signed(),
-        NODE_HORIZONTAL.greatest_signed(),
-    ])
-}
-
-/// A capacity that no node may have.
-pub fn bad_capacity(random: &mut Random) -> u64 {
-    random.pick(&[CAPACITY_MIN - 1, CAPACITY_MAX + 1, NODE_CAPACITY.greatest()])
-}
-
-/// A number that none of these nodes has.
-pub fn unknown_number(random: &mut Random, nodes: &[Node]) -> u64 {
-    let low = random.once_in(2);
-    loop {
-        let greatest = if low {
-            2 * TABLE_ROWS as u64
-        } else {
-            NUMBER_MAX
-        };
-        let number = random.unsigned(NUMBER_MIN, greatest);
-        if nodes.iter().all(|node| node.number != number) {
-            return number;
-        }
-    }
-}
-
 fn not_zero(random: &mut Random, edit: Edit) -> Edit {
     let position = random.pick(&[1, -1, POSITION_MAX, EDIT_HORIZONTAL.least_signed()]);
     let capacity = random.pick(&[CAPACITY_MIN, CAPACITY_MAX, EDIT_CAPACITY.greatest()]);
@@ -173,7 +174,8 @@ fn not_zero(random: &mut Random, edit: Edit) -> Edit {
         vertical: position,
         ..edit
     };
-    let bad_capacity = Edit { capacity, ..edit };
+    // With either sort: a good capacity field is no better here than a bad one.
+    let bad_capacity = Edit { capacity, ..edit }.with_sort(random.pick(&BOTH_SORTS));
     match edit.kind {
         KIND_DEPARTURE => random.pick(&[bad_horizontal, bad_vertical, bad_capacity]),
         KIND_MOVE => bad_capacity,
@@ -193,6 +195,7 @@ fn out_of_range(random: &mut Random, edit: Edit) -> Edit {
     };
     let bad_capacity = Edit {
         capacity: bad_capacity(random),
+        sort: random.pick(&BOTH_SORTS),
         ..edit
     };
     match edit.kind {
@@ -221,41 +224,9 @@ fn bad_presence(random: &mut Random, a: &[Node], b: &[Node]) -> Option<Edit> {
         }
         KIND_DEPARTURE => Some(Edit::departure(master, unknown)),
         KIND_MOVE => Some(Edit::moved(master, unknown, horizontal, vertical)),
-        _ => Some(Edit::new_capacity(master, unknown, some_capacity(random))),
-    }
-}
-
-/// A node for this master, with a number that is new to it.
-fn newcomer(random: &mut Random, nodes: &[Node], a: &[Node], b: &[Node]) -> Node {
-    let (horizontal, vertical) = destination(random, a, b);
-    Node {
-        number: unknown_number(random, nodes),
-        horizontal,
-        vertical,
-        capacity: some_capacity(random),
-    }
-}
-
-/// Mostly on or close to a node that is there, so that links are displaced.
-fn destination(random: &mut Random, a: &[Node], b: &[Node]) -> Place {
-    let nodes = if random.once_in(2) { a } else { b };
-    match random.below(8) {
-        0 => anywhere(random),
-        1 => extreme(random),
-        _ if nodes.is_empty() => near(random, (0, 0), 4),
-        choice => {
-            let node = random.pick(nodes);
-            let off = if choice < 5 { 2 } else { 60 };
-            near(random, (node.horizontal, node.vertical), off)
+        _ => {
+            let edit = Edit::new_capacity(master, unknown, some_capacity(random));
+            Some(edit.with_sort(some_sort(random, a, b)))
         }
-    }
-}
-
-/// Small ones and the ends of the range more often than the rest.
-fn some_capacity(random: &mut Random) -> u64 {
-    match random.below(6) {
-        0 => CAPACITY_MAX,
-        1 => random.unsigned(CAPACITY_MIN, CAPACITY_MAX),
-        _ => random.unsigned(CAPACITY_MIN, CAPACITY_MIN + 3),
     }
 }

@@ -61,7 +61,7 @@ impl Nodes {
         for node in nodes.iter_mut().filter(|node| node.number == edit.number) {
             match edit.kind {
                 KIND_MOVE => (node.horizontal, node.vertical) = (edit.horizontal, edit.vertical),
-                KIND_CAPACITY => node.capacity = edit.capacity,
+                KIND_CAPACITY => (node.capacity, node.sort) = (edit.capacity, edit.sort),
                 _ => {}
             }
         }

@@ -3,6 +3,7 @@
 //!
 //! - [`random::Random`]: the pseudo-random source that all others draw from.
 //! - [`drawing::Drawing`]: two masters, labelled with family and classes.
+//! - [`sorts::Sorts`]: which nodes of a drawing are on-curve.
 //! - [`edits`]: edits that will be done, and edits with one bad field.
 //! - [`damage`]: faulty tables and lists, with the row at fault.
 //! - [`lengths`]: wrong lengths, and buffers lent with them.
@@ -33,10 +34,13 @@
 //! }
 //! ```
 
+mod contours;
 pub mod damage;
 pub mod drawing;
 pub mod edits;
+mod fields;
 pub mod history;
 pub mod lengths;
 pub mod places;
 pub mod random;
+pub mod sorts;

@@ -1,5 +1,6 @@
 //! Where the nodes of a drawing lie, family by family.
 
+use super::contours::{curves, outline};
 use super::random::Random;
 use crate::sizes::{POSITION_MAX, POSITION_MIN};
 
@@ -18,6 +19,9 @@ pub enum Family {
     Line,
     /// A glyph's outline with its counter, the bold shifted and thickened.
     Outline,
+    /// A closed contour: each node is followed by its two handles, close to it on
+    /// either side, the bold shifted and thickened.
+    Curves,
     /// Spread over the whole field.
     Uniform,
     /// Small whole coordinates about the origin.
@@ -30,13 +34,14 @@ pub enum Family {
     Corners,
 }
 
-pub const FAMILIES: [Family; 11] = [
+pub const FAMILIES: [Family; 12] = [
     Family::Grid,
     Family::Extremes,
     Family::OnePoint,
     Family::Clusters,
     Family::Line,
     Family::Outline,
+    Family::Curves,
     Family::Uniform,
     Family::SmallRange,
     Family::Mirror,
@@ -64,6 +69,7 @@ pub fn places(
         Family::Clusters => clusters(random, count_a, count_b),
         Family::Line => line(random, count_a, count_b),
         Family::Outline => outline(random, count_a, count_b),
+        Family::Curves => curves(random, count_a, count_b),
         Family::Uniform => both(random, count_a, count_b, anywhere),
         Family::SmallRange => both(random, count_a, count_b, |random| near(random, (0, 0), 20)),
         Family::Mirror => mirror(random, count_a, count_b),
@@ -154,65 +160,6 @@ fn line(random: &mut Random, count_a: usize, count_b: usize) -> (Vec<Place>, Vec
         let step = random.signed(-steps, steps);
         (start.0 + across * step, start.1 + up * step)
     })
-}
-
-/// Sixteen directions on a circle of this radius, near enough.
-const DIRECTION_RADIUS: i64 = 1_000;
-const DIRECTIONS: [Place; 16] = [
-    (1_000, 0),
-    (924, 383),
-    (707, 707),
-    (383, 924),
-    (0, 1_000),
-    (-383, 924),
-    (-707, 707),
-    (-924, 383),
-    (-1_000, 0),
-    (-924, -383),
-    (-707, -707),
-    (-383, -924),
-    (0, -1_000),
-    (383, -924),
-    (707, -707),
-    (924, -383),
-];
-
-/// So many places along a closed outline about the centre, evenly.
-fn contour(centre: Place, (across, up): Place, count: usize) -> Vec<Place> {
-    let count = count as i64;
-    let corner = |k: i64| DIRECTIONS[k as usize % DIRECTIONS.len()];
-    (0..count)
-        .map(|n| {
-            let along = n * DIRECTIONS.len() as i64;
-            let (from, to) = (corner(along / count), corner(along / count + 1));
-            let rest = along % count;
-            let between = |from: i64, to: i64| (from * (count - rest) + to * rest) / count;
-            (
-                centre.0 + between(from.0, to.0) * across / DIRECTION_RADIUS,
-                centre.1 + between(from.1, to.1) * up / DIRECTION_RADIUS,
-            )
-        })
-        .collect()
-}
-
-fn outline(random: &mut Random, count_a: usize, count_b: usize) -> (Vec<Place>, Vec<Place>) {
-    let centre = near(random, (0, 0), 2_000);
-    let (across, up) = (random.signed(200, 900), random.signed(300, 1_200));
-    let stem = random.signed(40, 120);
-    let thicker = random.signed(5, 60);
-    let shifted = near(random, centre, 40);
-    let glyph = |centre, stem: i64, grown: i64, count: usize| {
-        let outer = contour(centre, (across + grown, up + grown), count - count / 2);
-        let counter = contour(
-            centre,
-            (across - stem - grown, up - stem - grown),
-            count / 2,
-        );
-        [outer, counter].concat()
-    };
-    let light = glyph(centre, stem, 0, count_a);
-    let bold = glyph(shifted, stem, thicker, count_b);
-    (light, bold)
 }
 
 fn mirror(random: &mut Random, count_a: usize, count_b: usize) -> (Vec<Place>, Vec<Place>) {

@@ -10,7 +10,7 @@ use std::panic::resume_unwind;
 use std::sync::atomic::{AtomicU64, Ordering};
 use std::thread;
 
-use model::generate::drawing::{Size, SIZES};
+use model::generate::drawing::{Size, Sorts, SIZES, SORTS};
 use model::generate::places::{Family, FAMILIES};
 use model::generate::random::Random;
 use model::report::Tally;
@@ -27,7 +27,12 @@ pub struct Figures {
     tally: Tally,
     damaged_calls: u64,
     edits_checked: u64,
+    /// Done edits that changed the sort of a node, and of these such as took a
+    /// link away or brought one.
+    sorts_changed: u64,
+    links_by_sort: u64,
     drawings: BTreeMap<(Size, Family), u64>,
+    sorts: BTreeMap<(Sorts, Family), u64>,
 }
 
 impl Figures {
@@ -35,8 +40,13 @@ impl Figures {
         self.tally.add(&other.tally);
         self.damaged_calls += other.damaged_calls;
         self.edits_checked += other.edits_checked;
+        self.sorts_changed += other.sorts_changed;
+        self.links_by_sort += other.links_by_sort;
         for (class, times) in &other.drawings {
             *self.drawings.entry(*class).or_default() += times;
+        }
+        for (class, times) in &other.sorts {
+            *self.sorts.entry(*class).or_default() += times;
         }
     }
 
@@ -65,6 +75,8 @@ fn run_history(seed: u64, figures: &mut Figures) {
     let mut run = Run::begin(&mut random, seed, size, CALLS);
     let class = (run.history.drawing.size, run.history.drawing.family);
     *figures.drawings.entry(class).or_default() += 1;
+    let class = (run.history.drawing.sorts, run.history.drawing.family);
+    *figures.sorts.entry(class).or_default() += 1;
     for place in 0..CALLS {
         run.call(place, figures);
         if random.once_in(4) {
@@ -118,6 +130,14 @@ fn byte_calls_and_paper_agree() {
         let times = figures.drawings_of(|_, of_family| of_family == family);
         println!("histories on drawings of family {family:?}: {times}");
         assert!(times > 0);
+    }
+    let (sorts_changed, links_by_sort) = (figures.sorts_changed, figures.links_by_sort);
+    println!("sorts changed by edits: {sorts_changed}, with the links: {links_by_sort}");
+    assert!(sorts_changed > HISTORIES / 4 && links_by_sort > HISTORIES / 10);
+    for sorts in SORTS {
+        let times = FAMILIES.map(|family| figures.sorts.get(&(sorts, family)).copied());
+        println!("histories on drawings with sorts {sorts:?}, by family: {times:?}");
+        assert!(times.iter().all(|times| times.is_some_and(|n| n > 20)));
     }
     println!("call by refusal number:\n{tally}");
     assert_eq!(tally.never_met(), []);

@@ -1,7 +1,7 @@
 //! One history, call by call, on the byte calls and on the paper drawing.
 
 use model::answer::number_of;
-use model::buffers::links_of;
+use model::buffers::{links_of, nodes_of};
 use model::checks::{fault_of_links, rows_ahead_same};
 use model::engine::{Engine, Model, Ran, Request};
 use model::generate::drawing::Size;
@@ -10,7 +10,7 @@ use model::generate::random::Random;
 use model::paper::PaperDrawing;
 use model::report::hex;
 use model::rows::Edit;
-use model::sizes::LIST_BYTES;
+use model::sizes::{LIST_BYTES, MASTER_A};
 
 use crate::Figures;
 
@@ -109,6 +109,18 @@ impl Run {
         let (before, after) = (&ran.before.list, &ran.after.list);
         let same = rows_ahead_same(before, after, edit.master, edit.number);
         self.check(same, place, "rows ahead of the edited node");
+        let sort_in = |a: &[u8], b: &[u8]| {
+            let nodes = nodes_of(if edit.master == MASTER_A { a } else { b });
+            let node = nodes.into_iter().find(|node| node.number == edit.number);
+            node.map(|node| node.sort)
+        };
+        if let (Some(old), Some(new)) = (
+            sort_in(&ran.before.a, &ran.before.b),
+            sort_in(&ran.after.a, &ran.after.b),
+        ) {
+            figures.sorts_changed += u64::from(old != new);
+            figures.links_by_sort += u64::from(old != new && before != after);
+        }
         let (a, b) = (self.paper.nodes_a(), self.paper.nodes_b());
         let work = a.len() * b.len() * (a.len() + b.len());
         let last = place + 1 == self.history.calls.len() && work <= BLOCKED_WORK_ONCE;
