@@ -91,8 +91,8 @@ void put(Bytes &bytes, size_t at, unsigned value) {
 
 unsigned number(unsigned row) { return 65535 - 127 * row; }
 
-// So many nodes all over the field, of capacities 1 to 64.
-Bytes table(unsigned seed, unsigned nodes) {
+// So many nodes all over the field, of capacities 1 to 64, and of one sort or of two by turns.
+Bytes table(unsigned seed, unsigned nodes, unsigned sorts) {
     auto draw = [&](unsigned below) {
         seed = seed * 1664525u + 1013904223u;
         return (seed >> 8) % below;
@@ -105,16 +105,18 @@ Bytes table(unsigned seed, unsigned nodes) {
         put(table, at + 2, draw(field) + PAIRING_POSITION_MIN);
         put(table, at + 4, draw(field) + PAIRING_POSITION_MIN);
         put(table, at + 6, draw(PAIRING_CAPACITY_MAX) + 1);
+        table[at + 7] = row % sorts;
     }
     return table;
 }
 
-// Two masters, an edit of the node in A's last row that is right for them, and their finished list.
-Drawing drawing(uint8_t kind) {
+// Two masters, an edit of the node in A's last row that is right for them, and their finished list. A new capacity also
+// makes the node on-curve.
+Drawing drawing(uint8_t kind, unsigned sorts) {
     const bool arrival = kind == PAIRING_KIND_ARRIVAL;
     const bool placed = arrival || kind == PAIRING_KIND_MOVE;
     const bool capacity = arrival || kind == PAIRING_KIND_CAPACITY;
-    Bytes a = table(1, PAIRING_TABLE_ROWS - arrival), b = table(2, PAIRING_TABLE_ROWS);
+    Bytes a = table(1, PAIRING_TABLE_ROWS - arrival, sorts), b = table(2, PAIRING_TABLE_ROWS, sorts);
     Bytes list(PAIRING_LIST_BYTES), edit(PAIRING_EDIT_BYTES), counts(PAIRING_COUNTS_BYTES);
     edit[0] = kind;
     put(edit, 2, number(PAIRING_TABLE_ROWS - 1));
@@ -128,17 +130,20 @@ Drawing drawing(uint8_t kind) {
     return all;
 }
 
-// Every kind of edit, each with the finished list, with half of it, and with one that has a wrong row.
+// Every kind of edit of masters of one sort and of two, each with the finished list, with half of it, and with one that
+// has a wrong row.
 std::vector<Drawing> drawings() {
     std::vector<Drawing> all;
     const size_t row = PAIRING_LINK_BYTES * (PAIRING_TABLE_ROWS / 2);
-    for (uint8_t kind = PAIRING_KIND_ARRIVAL; kind <= PAIRING_KIND_CAPACITY; kind++) {
-        const Drawing finished = drawing(kind);
-        Drawing half = finished, wrong = finished;
-        Bytes &list = half.buffers["list"];
-        std::fill(list.begin() + row, list.end(), 0);
-        wrong.buffers["list"][row + PAIRING_LINK_BYTES - 2] ^= 1;
-        all.insert(all.end(), {finished, half, wrong});
+    for (unsigned sorts : {1, 2}) {
+        for (uint8_t kind = PAIRING_KIND_ARRIVAL; kind <= PAIRING_KIND_CAPACITY; kind++) {
+            const Drawing finished = drawing(kind, sorts);
+            Drawing half = finished, wrong = finished;
+            Bytes &list = half.buffers["list"];
+            std::fill(list.begin() + row, list.end(), 0);
+            wrong.buffers["list"][row + PAIRING_LINK_BYTES - 2] ^= 1;
+            all.insert(all.end(), {finished, half, wrong});
+        }
     }
     return all;
 }

@@ -1,6 +1,4 @@
-//! Tables to nodes and links to a list: the part of the work that both peers share.
-
-use std::mem;
+//! Rows to nodes and links to a list: the part of the work that both peers share.
 
 use model::sizes::*;
 
@@ -24,16 +22,18 @@ impl Node {
         (self.x, self.y) == (other.x, other.y)
     }
 
-    fn read(row: &[u8]) -> Node {
-        Node {
+    /// The node of a row, and its sort.
+    pub fn read(row: &[u8]) -> (Node, u8) {
+        let node = Node {
             number: u16_at(row, 0),
             x: i32::from(u16_at(row, 2) as i16),
             y: i32::from(u16_at(row, 4) as i16),
-            left: u16_at(row, 6),
-        }
+            left: u16::from(row[6]),
+        };
+        (node, row[7])
     }
 
-    fn in_range(&self) -> bool {
+    pub fn in_range(&self) -> bool {
         let field = POSITION_MIN as i32..=POSITION_MAX as i32;
         let capacities = CAPACITY_MIN as u16..=CAPACITY_MAX as u16;
         field.contains(&self.x) && field.contains(&self.y) && capacities.contains(&self.left)
@@ -42,109 +42,6 @@ impl Node {
 
 fn u16_at(row: &[u8], at: usize) -> u16 {
     u16::from_le_bytes([row[at], row[at + 1]])
-}
-
-/// Places in a table by number: chains of places whose numbers share a slot.
-struct Index {
-    /// An entry is a place plus 1; 0 ends a chain.
-    heads: Vec<u16>,
-    nexts: Vec<u16>,
-}
-
-const SLOT_BITS: u32 = 10;
-
-/// The upper bits of a product by the golden ratio spread numbers that follow each other.
-fn slot(number: u16) -> usize {
-    (u32::from(number).wrapping_mul(0x9e37_79b9) >> (u32::BITS - SLOT_BITS)) as usize
-}
-
-/// The nodes of a table, each found by its number; in row order until they are arranged.
-pub struct Master {
-    pub nodes: Vec<Node>,
-    /// For each node, its row in the table.
-    rows: Vec<u16>,
-    index: Index,
-    /// Where the nodes were before they were arranged.
-    before: Vec<Node>,
-}
-
-impl Default for Master {
-    fn default() -> Master {
-        Master {
-            nodes: Vec::with_capacity(TABLE_ROWS),
-            rows: Vec::with_capacity(TABLE_ROWS),
-            index: Index {
-                heads: vec![0; 1 << SLOT_BITS],
-                nexts: vec![0; TABLE_ROWS],
-            },
-            before: Vec::with_capacity(TABLE_ROWS),
-        }
-    }
-}
-
-impl Master {
-    /// Puts the nodes of a table of the stated length in the place of those before; or gives the first faulty row.
-    pub fn read(&mut self, table: &[u8]) -> Result<(), usize> {
-        self.clear();
-        for (row, bytes) in (0..).zip(table.chunks_exact(NODE_BYTES)) {
-            let node = Node::read(bytes);
-            if node.number == 0 {
-                break;
-            }
-            if !node.in_range() || self.place_of(node.number).is_some() {
-                return Err(self.nodes.len());
-            }
-            self.add(node, row);
-        }
-        let nodes = self.nodes.len();
-        let mut rest = table[nodes * NODE_BYTES..].chunks_exact(NODE_BYTES);
-        match rest.position(|row| row != [0; NODE_BYTES]) {
-            Some(row) => Err(nodes + row),
-            None => Ok(()),
-        }
-    }
-
-    /// Puts the nodes of a table that was just read in the order of these rows.
-    pub fn arrange(&mut self, rows: impl Iterator<Item = u16>) {
-        mem::swap(&mut self.nodes, &mut self.before);
-        self.clear();
-        for row in rows {
-            self.add(self.before[usize::from(row)], row);
-        }
-    }
-
-    fn clear(&mut self) {
-        self.nodes.clear();
-        self.rows.clear();
-        self.index.heads.fill(0);
-    }
-
-    fn add(&mut self, node: Node, row: u16) {
-        let (place, head) = (self.nodes.len(), slot(node.number));
-        self.index.nexts[place] = self.index.heads[head];
-        self.index.heads[head] = place as u16 + 1;
-        self.nodes.push(node);
-        self.rows.push(row);
-    }
-
-    /// The row of the table.
-    pub fn row_of(&self, number: u16) -> Option<usize> {
-        let place = self.place_of(number)?;
-        Some(usize::from(self.rows[place]))
-    }
-
-    /// The place among the nodes.
-    pub fn place_of(&self, number: u16) -> Option<usize> {
-        let mut entry = self.index.heads[slot(number)];
-        while entry != 0 {
-            let place = usize::from(entry) - 1;
-            if self.nodes[place].number == number {
-                return Some(place);
-            }
-            entry = self.index.nexts[place];
-        }
-        None
-    }
 }
 
 /// Distance, A number and B number of a link packed into one number, so that

@@ -126,7 +126,7 @@ fn request(random: &mut Random, call: Call, master: u64, node: Node) -> Request 
         }
         Call::Capacity => {
             let capacity = node.capacity % CAPACITY_MAX + 1;
-            Edit::new_capacity(master, node.number, capacity)
+            Edit::new_capacity(master, node.number, capacity).with_sort(node.sort)
         }
     };
     let edit = edit.bytes().to_vec();

@@ -6,7 +6,8 @@
 //! stack stays true, since partners only ever go away; it is never built anew.
 
 use crate::blocks::{Blocks, Partner, BLOCK};
-use crate::bytes::{link, refill, Link, Master, Node};
+use crate::bytes::{link, refill, Link, Node};
+use crate::masters::{BySort, Master};
 
 /// The nodes of a master, and where the open ones stand.
 #[derive(Default)]
@@ -89,12 +90,20 @@ pub struct Chain {
 }
 
 impl Chain {
-    pub fn join(&mut self, masters: &[Master; 2], blocks: &[Blocks; 2], links: &mut Vec<Link>) {
-        for (side, master) in self.sides.iter_mut().zip(masters) {
-            side.open(&master.nodes);
-        }
+    /// One sort after the other.
+    pub fn join(
+        &mut self,
+        masters: &BySort<Master>,
+        blocks: &BySort<Blocks>,
+        links: &mut Vec<Link>,
+    ) {
         links.clear();
-        self.take_links(blocks, links);
+        for (masters, blocks) in masters.iter().zip(blocks) {
+            for (side, master) in self.sides.iter_mut().zip(masters) {
+                side.open(&master.nodes);
+            }
+            self.take_links(blocks, links);
+        }
         links.sort_unstable();
     }
 

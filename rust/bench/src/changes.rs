@@ -5,6 +5,7 @@ use std::ops::Range;
 use model::generate::edits::{good_edit, unknown_number, KINDS};
 use model::generate::places::{anywhere, near, Place};
 use model::generate::random::Random;
+use model::generate::sorts::BOTH_SORTS;
 use model::rows::{Edit, Node};
 use model::sizes::*;
 
@@ -31,6 +32,7 @@ pub fn changed(random: &mut Random, trial: &Trial) -> Trial {
         change_edit,
         change_edited,
         change_capacities,
+        change_sorts,
         change_places,
         change_places,
         shift_master,
@@ -101,6 +103,16 @@ fn change_capacities(random: &mut Random, trial: &mut Trial) {
     let capacity = random.once_in(2).then(|| some_capacity(random));
     for node in &mut nodes[rows] {
         node.capacity = capacity.unwrap_or_else(|| some_capacity(random));
+    }
+}
+
+/// Some nodes of one sort, or each of either.
+fn change_sorts(random: &mut Random, trial: &mut Trial) {
+    let nodes = some_master(random, &mut trial.drawing);
+    let rows = some_rows(random, nodes.len());
+    let sort = random.once_in(2).then(|| random.pick(&BOTH_SORTS));
+    for node in &mut nodes[rows] {
+        node.sort = sort.unwrap_or_else(|| random.pick(&BOTH_SORTS));
     }
 }
 
@@ -178,6 +190,11 @@ fn change_count(random: &mut Random, trial: &mut Trial) {
         let like = random.pick(nodes);
         let (horizontal, vertical) = near(random, (like.horizontal, like.vertical), 30);
         let number = unknown_number(random, nodes);
-        nodes.push(Node::new(number, horizontal, vertical, like.capacity));
+        nodes.push(Node {
+            number,
+            horizontal,
+            vertical,
+            ..like
+        });
     }
 }

@@ -12,7 +12,8 @@ use std::mem;
 use model::sizes::LINK_BYTES;
 
 use crate::blocks::{key, Blocks, Bounds, BLOCK};
-use crate::bytes::{link, parts, refill, rows, Link, Master, Node};
+use crate::bytes::{link, parts, refill, rows, Link, Node};
+use crate::masters::{find, BySort, Master};
 
 /// What is left of each node of a master, and where its partners end.
 #[derive(Default)]
@@ -138,8 +139,7 @@ fn late(number: u32, other: u32) -> u32 {
 
 #[derive(Default)]
 pub struct Check {
-    /// A, then B.
-    sides: [Side; 2],
+    sides: BySort<Side>,
     lanes: Vec<Lanes>,
 }
 
@@ -147,13 +147,11 @@ impl Check {
     /// Whether the list is the finished one of two masters.
     pub fn is_finished(
         &mut self,
-        masters: &[Master; 2],
-        blocks: &[Blocks; 2],
+        masters: &BySort<Master>,
+        blocks: &BySort<Blocks>,
         list: &[u8],
     ) -> bool {
-        for (side, master) in self.sides.iter_mut().zip(masters) {
-            side.forget(&master.nodes);
-        }
+        self.each(masters, |side, master| side.forget(&master.nodes));
         let rest = &list[rows(list).count() * LINK_BYTES..];
         rest.iter().all(|byte| *byte == 0) && self.is_join(masters, blocks, rows(list))
     }
@@ -161,25 +159,21 @@ impl Check {
     /// Whether the links are those of the join after an edit, in pair order; the last check said yes to those before it.
     pub fn is_join_again(
         &mut self,
-        masters: &[Master; 2],
-        blocks: &[Blocks; 2],
+        masters: &BySort<Master>,
+        blocks: &BySort<Blocks>,
         links: impl Iterator<Item = Link>,
     ) -> bool {
-        for (side, master) in self.sides.iter_mut().zip(masters) {
-            side.carry(master);
-        }
+        self.each(masters, Side::carry);
         self.is_join(masters, blocks, links)
     }
 
     fn is_join(
         &mut self,
-        masters: &[Master; 2],
-        blocks: &[Blocks; 2],
+        masters: &BySort<Master>,
+        blocks: &BySort<Blocks>,
         links: impl Iterator<Item = Link>,
     ) -> bool {
-        for (side, master) in self.sides.iter_mut().zip(masters) {
-            side.fill(&master.nodes);
-        }
+        self.each(masters, |side, master| side.fill(&master.nodes));
         let mut before = 0;
         for link in links {
             if link.0 <= before || self.spend(masters, link).is_none() {
@@ -187,20 +181,28 @@ impl Check {
             }
             before = link.0;
         }
-        if self.any_open(masters, blocks) {
+        let mut sorts = 0..masters.len();
+        if sorts.any(|sort| self.any_open(sort, &masters[sort], &blocks[sort])) {
             return false;
         }
-        for (side, master) in self.sides.iter_mut().zip(masters) {
-            side.keep(&master.nodes);
-        }
+        self.each(masters, |side, master| side.keep(&master.nodes));
         true
     }
 
-    /// Takes the amount of a link from both its nodes; none if the link is wrong.
-    fn spend(&mut self, [a, b]: &[Master; 2], taken: Link) -> Option<()> {
+    fn each(&mut self, masters: &BySort<Master>, act: impl Fn(&mut Side, &Master)) {
+        let sides = self.sides.iter_mut().flatten();
+        sides
+            .zip(masters.iter().flatten())
+            .for_each(|(side, master)| act(side, master));
+    }
+
+    /// Takes the amount of a link from both its nodes, which are of one sort; none if the link is wrong.
+    fn spend(&mut self, masters: &BySort<Master>, taken: Link) -> Option<()> {
         let (distance, number_a, number_b) = parts(taken);
-        let (i, j) = (a.place_of(number_a)?, b.place_of(number_b)?);
-        let [in_a, in_b] = &mut self.sides;
+        let end = find(masters, 0, number_a)?;
+        let [a, b] = &masters[end.sort];
+        let (i, j) = (end.place, b.place_of(number_b)?);
+        let [in_a, in_b] = &mut self.sides[end.sort];
         let amount = in_a.lefts[i].min(in_b.lefts[j]);
         if amount == 0 || taken != link(&a.nodes[i], &b.nodes[j], amount) {
             return None;
@@ -212,36 +214,43 @@ impl Check {
 
     /// Blocks serve best around the master whose nodes lie closer together, so the other one's nodes come first; where
     /// all of these are later than known, every pair has then been looked at.
-    fn any_open(&mut self, masters: &[Master; 2], blocks: &[Blocks; 2]) -> bool {
-        for side in &mut self.sides {
+    fn any_open(&mut self, sort: usize, masters: &[Master; 2], blocks: &[Blocks; 2]) -> bool {
+        let sides = &mut self.sides[sort];
+        for side in sides.iter_mut() {
             side.find_later();
         }
         let first = usize::from(spread(&masters[0].nodes) < spread(&masters[1].nodes));
-        let all = self.sides[first].all_later();
-        self.open_from(first, masters, blocks) || !all && self.open_from(1 - first, masters, blocks)
+        let all = sides[first].all_later();
+        let lanes = &mut self.lanes;
+        let mut open_from = |side: usize| open_from(side, sides, lanes, masters, blocks);
+        open_from(first) || !all && open_from(1 - first)
     }
+}
 
-    /// Whether one of a master's later nodes is open with a node of the other master.
-    fn open_from(&mut self, side: usize, masters: &[Master; 2], blocks: &[Blocks; 2]) -> bool {
-        let other = 1 - side;
-        let nodes = masters[other].nodes.chunks(BLOCK);
-        let parts = nodes.zip(self.sides[other].limits.chunks(BLOCK));
-        refill(
-            &mut self.lanes,
-            parts.map(|(nodes, limits)| Lanes::new(nodes, limits)),
-        );
-        let groups = masters[side].nodes.chunks(BLOCK);
-        let later = self.sides[side].later.chunks(BLOCK);
-        let mut groups = blocks[side].bounds.iter().zip(groups.zip(later));
-        groups.any(|(bounds, (nodes, limits))| {
-            let group = Group {
-                bounds,
-                nodes,
-                limits,
-            };
-            group.is_open(&blocks[other], &self.lanes)
-        })
-    }
+/// Whether one of a master's later nodes is open with a node of the other master, both of one sort.
+fn open_from(
+    side: usize,
+    sides: &[Side; 2],
+    all: &mut Vec<Lanes>,
+    masters: &[Master; 2],
+    blocks: &[Blocks; 2],
+) -> bool {
+    let other = 1 - side;
+    let nodes = masters[other].nodes.chunks(BLOCK);
+    let parts = nodes.zip(sides[other].limits.chunks(BLOCK));
+    let lanes = parts.map(|(nodes, limits)| Lanes::new(nodes, limits));
+    refill(all, lanes);
+    let groups = masters[side].nodes.chunks(BLOCK);
+    let later = sides[side].later.chunks(BLOCK);
+    let mut groups = blocks[side].bounds.iter().zip(groups.zip(later));
+    groups.any(|(bounds, (nodes, limits))| {
+        let group = Group {
+            bounds,
+            nodes,
+            limits,
+        };
+        group.is_open(&blocks[other], all)
+    })
 }
 
 /// A block of nodes whose limits are looked at.

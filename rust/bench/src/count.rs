@@ -3,7 +3,7 @@
 use std::env::current_exe;
 use std::process::Command;
 
-use model::generate::drawing::Capacities;
+use model::generate::drawing::{Capacities, Sorts};
 use model::generate::random::Random;
 
 use crate::cases::{Call, Case, CALLS};
@@ -16,6 +16,7 @@ pub const CLASS: Class = Class {
     shape: Shape::Uniform,
     count: FULL,
     capacities: Capacities::Few,
+    sorts: Sorts::OnCurve,
 };
 
 /// The word that makes this program run one call; then come the call's and the caller's place.

@@ -6,10 +6,10 @@
 //! - [`peer`]: the calls in safe Rust, over a method of joining, checking and repairing.
 //! - [`same`]: the engine's own method, once more: [`order`], [`blocks`], [`chain`], [`check`], [`repair`].
 //! - [`sorted`]: the plain way, all pairs sorted, to check a list and to make one.
-//! - [`bytes`]: tables to nodes and links to a list, as both peers do it.
+//! - [`bytes`], [`masters`]: tables to nodes of each sort and links to a list, as both peers do it.
 //! - [`measure`]: the three by turns on the same calls, timed by [`clock`] and compared.
 //! - [`count`]: the instructions of one fixed case.
-//! - [`report`], [`aims`]: the tables, and what was to be reached; [`files`]: where they go.
+//! - [`report`], [`mixed`], [`aims`]: the tables, and what was to be reached; [`files`]: where they go.
 //! - [`trial`], [`hard`]: a drawing with an edit of it; those that change most links.
 //! - [`worst`], [`changes`]: a search for the slowest edit.
 
@@ -25,7 +25,9 @@ pub mod clock;
 pub mod count;
 pub mod files;
 pub mod hard;
+pub mod masters;
 pub mod measure;
+pub mod mixed;
 pub mod order;
 pub mod peer;
 pub mod repair;

@@ -1,5 +1,6 @@
 //! Times the engine's calls beside their peers and prints the tables. ONLY=text picks the calls with that text in
-//! their name; a run of all calls also writes its tables and lines to target/bench, where tools/chart finds them.
+//! their name, SORTS=on-curve the drawings of one sort; a run of all also writes its tables and lines to target/bench,
+//! where tools/chart finds them.
 
 use std::env;
 use std::process::ExitCode;
@@ -10,6 +11,7 @@ use bench::count;
 use bench::files::write;
 use bench::hard;
 use bench::measure::{Bench, Line};
+use bench::mixed::by_sorts;
 use bench::report::*;
 use bench::shapes::Class;
 
@@ -36,27 +38,32 @@ fn run() -> Result<(), String> {
         return Err(format!("no call has {only:?} in its name: {names}"));
     }
     println!("{}\n", heading());
-    let lines = measure(&calls)?;
+    let sorts = env::var("SORTS").unwrap_or_default();
+    let groups = Class::groups_of(&sorts);
+    if groups.is_empty() {
+        return Err(format!("no drawing has the sorts {sorts:?}"));
+    }
+    let lines = measure(&calls, &groups)?;
     let tables = tables(&lines, &calls);
     print!("{tables}");
-    if calls.len() == CALLS.len() {
+    if calls.len() == CALLS.len() && sorts.is_empty() {
         write("tables.md", &tables)?;
         write("lines.tsv", &lines_text(&lines))?;
     }
     Ok(())
 }
 
-fn measure(calls: &[Call]) -> Result<Vec<Line>, String> {
+fn measure(calls: &[Call], groups: &[Vec<Class>]) -> Result<Vec<Line>, String> {
     let mut bench = Bench::default();
     let mut lines = Vec::new();
     let mut family = "";
-    for group in Class::groups() {
+    for group in groups {
         if group[0].shape.name() != family {
             family = group[0].shape.name();
             eprintln!("bench: {family}");
         }
         for call in calls {
-            lines.extend(bench.measure(&group, *call)?);
+            lines.extend(bench.measure(group, *call)?);
         }
     }
     Ok(lines)
@@ -89,6 +96,10 @@ fn tables(lines: &[Line], calls: &[Call]) -> String {
         (
             "The longest edit by family, at 512 nodes a side and on glyphs' outlines",
             by_family(lines),
+        ),
+        (
+            "Two sorts beside the same places all on-curve, at 512 nodes a side and on glyphs' outlines",
+            by_sorts(lines),
         ),
         (
             "Edits that change most links, at 512 nodes a side: the least of some runs",

@@ -2,11 +2,12 @@
 
 use interface::{calls, slice};
 use model::answer::{answer, Refusal};
-use model::rows::{capacity_in_range, position_in_range, Edit};
+use model::rows::{capacity_in_range, position_in_range, sort_in_range, Edit};
 use model::sizes::*;
 
-use crate::bytes::{common, difference, parts, refill, rows, write_from, write_row, Link, Master};
+use crate::bytes::{common, difference, parts, rows, write_from, write_row, Link};
 use crate::calls::Calls;
+use crate::masters::{count, find, node_of, read, row_of, BySort, End, Master};
 
 /// The node that an edit is about.
 #[derive(Clone, Copy)]
@@ -18,21 +19,28 @@ pub struct Edited {
 
 pub trait Method: Default {
     /// Puts the nodes of a master that was just read in the order that the method wants; by default they stay.
-    fn arrange(&mut self, _side: usize, _master: &mut Master) {}
+    fn arrange(&mut self, _masters: &mut BySort<Master>, _side: usize) {}
 
-    /// The same after an edit, with the numbers in the order that the method wanted before it; by default they stay.
-    fn rearrange(&mut self, _side: usize, _master: &mut Master, _known: &[u16]) {}
+    /// The same after an edit, with the numbers of each sort in the order that the method wanted before it; by default they
+    /// stay.
+    fn rearrange(
+        &mut self,
+        _masters: &mut BySort<Master>,
+        _edited: Edited,
+        _known: &[Vec<u16>; 2],
+    ) {
+    }
 
     /// Puts the links of the join, in pair order, in the place of those given.
-    fn join(&mut self, masters: &[Master; 2], links: &mut Vec<Link>);
+    fn join(&mut self, masters: &BySort<Master>, links: &mut Vec<Link>);
 
     /// Says yes only to the finished list; where it says no, the join decides.
-    fn is_finished(&mut self, masters: &[Master; 2], list: &[u8]) -> bool;
+    fn is_finished(&mut self, masters: &BySort<Master>, list: &[u8]) -> bool;
 
     /// As the join, after an edit of one node; the list was finished before it. By default joined anew.
     fn repair(
         &mut self,
-        masters: &[Master; 2],
+        masters: &BySort<Master>,
         _list: &[u8],
         _edited: Edited,
         links: &mut Vec<Link>,
@@ -60,10 +68,10 @@ impl<M: Method> Calls for Peer<M> {
 #[derive(Default)]
 struct Kept<M> {
     method: M,
-    masters: [Master; 2],
+    masters: BySort<Master>,
     links: Vec<Link>,
-    /// The numbers of the edited master before the edit, in order.
-    known: Vec<u16>,
+    /// The numbers of the edited master before the edit, in order, for each sort.
+    known: [Vec<u16>; 2],
 }
 
 impl<M: Method> Kept<M> {
@@ -103,11 +111,13 @@ impl<M: Method> Kept<M> {
             side: edit.master as usize,
             number: edit.number as u16,
         };
-        let master = &mut self.masters[edited.side];
-        refill(&mut self.known, master.nodes.iter().map(|node| node.number));
+        for (known, masters) in self.known.iter_mut().zip(&self.masters) {
+            masters[edited.side].numbers(known);
+        }
         // The changed table is sound: it was, and the edit is.
-        let _ = master.read(table);
-        self.method.rearrange(edited.side, master, &self.known);
+        let _ = read(&mut self.masters, edited.side, table);
+        let masters = &mut self.masters;
+        self.method.rearrange(masters, edited, &self.known);
         self.method
             .repair(&self.masters, list, edited, &mut self.links);
         let kept = common(list, &self.links);
@@ -125,17 +135,17 @@ impl<M: Method> Kept<M> {
     ) -> Result<u64, Refusal> {
         self.tables(a, b, list, true)?;
         self.list(list)?;
-        let nodes = self.master(u64::from(master))?;
+        let side = side_of(u64::from(master))?;
         if number == 0 {
             return Err(Refusal::Field);
         }
-        let place = nodes.place_of(number).ok_or(Refusal::Presence)?;
+        let end = find(&self.masters, side, number).ok_or(Refusal::Presence)?;
         let taken = rows(list).filter(|link| {
             let (_, in_a, in_b) = parts(*link);
-            [in_a, in_b][usize::from(master)] == number
+            [in_a, in_b][side] == number
         });
         let taken: u16 = taken.map(|link| link.1).sum();
-        Ok(u64::from(nodes.nodes[place].left - taken))
+        Ok(u64::from(node_of(&self.masters, end).left - taken))
     }
 
     fn bands(
@@ -163,15 +173,13 @@ impl<M: Method> Kept<M> {
         if !tables || list.len() != LIST_BYTES || !rest {
             return Err(Refusal::Length);
         }
-        let [in_a, in_b] = &mut self.masters;
-        in_a.read(a).map_err(|row| Refusal::TableA { row })?;
-        in_b.read(b).map_err(|row| Refusal::TableB { row })?;
-        [0, 1].into_iter().for_each(|side| self.arrange(side));
+        let masters = &mut self.masters;
+        read(masters, 0, a).map_err(|row| Refusal::TableA { row })?;
+        read(masters, 1, b).map_err(|row| Refusal::TableB { row })?;
+        for side in [0, 1] {
+            self.method.arrange(masters, side);
+        }
         Ok(())
-    }
-
-    fn arrange(&mut self, side: usize) {
-        self.method.arrange(side, &mut self.masters[side]);
     }
 
     /// The place of the list. Where it is not finished, the links of the join are there afterwards.
@@ -190,10 +198,6 @@ impl<M: Method> Kept<M> {
         })
     }
 
-    fn master(&self, master: u64) -> Result<&Master, Refusal> {
-        self.masters.get(master as usize).ok_or(Refusal::Master)
-    }
-
     /// The edit's own places; gives the row that it changes.
     fn judge(&self, edit: &Edit) -> Result<usize, Refusal> {
         let [used, capacity] = match edit.kind {
@@ -203,25 +207,35 @@ impl<M: Method> Kept<M> {
             KIND_CAPACITY => [false, true],
             _ => return Err(Refusal::Kind),
         };
-        let master = self.master(edit.master)?;
+        let side = side_of(edit.master)?;
         let positions = [edit.horizontal, edit.vertical];
         let right = match used {
             true => positions.iter().all(|place| position_in_range(*place)),
             false => positions == [0, 0],
         };
         let fits = match capacity {
-            true => capacity_in_range(edit.capacity),
-            false => edit.capacity == 0,
+            true => capacity_in_range(edit.capacity) && sort_in_range(edit.sort),
+            false => (edit.capacity, edit.sort) == (0, 0),
         };
         if edit.number == 0 || !right || !fits {
             return Err(Refusal::Field);
         }
-        match (edit.kind, master.row_of(edit.number as u16)) {
-            (KIND_ARRIVAL, Some(_)) => Err(Refusal::Presence),
-            (KIND_ARRIVAL, None) if master.nodes.len() == TABLE_ROWS => Err(Refusal::Full),
-            (KIND_ARRIVAL, None) => Ok(master.nodes.len()),
-            (_, row) => row.ok_or(Refusal::Presence),
+        let known = find(&self.masters, side, edit.number as u16);
+        let row = |end: End| row_of(&self.masters, end);
+        match (edit.kind, known, count(&self.masters, side)) {
+            (KIND_ARRIVAL, Some(_), _) => Err(Refusal::Presence),
+            (KIND_ARRIVAL, None, TABLE_ROWS) => Err(Refusal::Full),
+            (KIND_ARRIVAL, None, nodes) => Ok(nodes),
+            (_, end, _) => end.map(row).ok_or(Refusal::Presence),
         }
+    }
+}
+
+/// 0 for A, 1 for B.
+fn side_of(master: u64) -> Result<usize, Refusal> {
+    match master {
+        MASTER_A | MASTER_B => Ok(master as usize),
+        _ => Err(Refusal::Master),
     }
 }
 
@@ -238,6 +252,9 @@ fn change(table: &mut [u8], edit: &Edit, row: usize) {
             NODE_HORIZONTAL.write_signed(&mut table[start..end], edit.horizontal);
             NODE_VERTICAL.write_signed(&mut table[start..end], edit.vertical);
         }
-        _ => NODE_CAPACITY.write(&mut table[start..end], edit.capacity),
+        _ => {
+            NODE_CAPACITY.write(&mut table[start..end], edit.capacity);
+            NODE_SORT.write(&mut table[start..end], edit.sort);
+        }
     }
 }

@@ -7,7 +7,8 @@
 //! earliest of all these links is the next one.
 
 use crate::blocks::{Blocks, Bounds, Partner, BLOCK};
-use crate::bytes::{link, parts, refill, Link, Master, Node};
+use crate::bytes::{link, parts, refill, Link, Node};
+use crate::masters::{find, node_of, BySort, End, Master};
 use crate::peer::Edited;
 
 /// The repair gives up beyond these: the chain is then as fast. Its cost is that of the blocks scanned and of the looks through the
@@ -19,28 +20,20 @@ const SHARE: usize = 4;
 /// The drawing after the edit.
 #[derive(Clone, Copy)]
 pub struct After<'a> {
-    pub masters: &'a [Master; 2],
-    pub blocks: &'a [Blocks; 2],
-}
-
-/// A node: its master, and its place there.
-#[derive(Clone, Copy, PartialEq, Eq)]
-struct End {
-    side: usize,
-    place: usize,
+    pub masters: &'a BySort<Master>,
+    pub blocks: &'a BySort<Blocks>,
 }
 
 impl After<'_> {
     fn end(&self, side: usize, number: u16) -> Option<End> {
-        let place = self.masters[side].place_of(number)?;
-        Some(End { side, place })
+        find(self.masters, side, number)
     }
 
-    /// The two nearest partners that have something left; none where there is no such one.
+    /// The two nearest partners of its sort that have something left; none where there is no such one.
     fn nearest(&self, from: End, left: &mut Left, cost: &mut usize) -> [Option<End>; 2] {
-        let side = 1 - from.side;
-        let nodes = &self.masters[side].nodes;
-        let from = &self.masters[from.side].nodes[from.place];
+        let (sort, side) = (from.sort, 1 - from.side);
+        let nodes = &self.masters[sort][side].nodes;
+        let from = node_of(self.masters, from);
         let mut best = [Partner::NONE; 2];
         for block in 0..left.boxes.len() {
             if !left.is_near(block, from, best[1], nodes) {
@@ -58,7 +51,7 @@ impl After<'_> {
         }
         best.map(|partner| {
             let place = partner.at;
-            (partner.key != Partner::NONE.key).then_some(End { side, place })
+            (partner.key != Partner::NONE.key).then_some(End { sort, side, place })
         })
     }
 
@@ -69,8 +62,7 @@ impl After<'_> {
         } else {
             [other, one]
         };
-        let [in_a, in_b] = self.masters;
-        link(&in_a.nodes[a.place], &in_b.nodes[b.place], 0).0
+        link(node_of(self.masters, a), node_of(self.masters, b), 0).0
     }
 }
 
@@ -157,8 +149,7 @@ struct Candidate {
 
 #[derive(Default)]
 pub struct Repair {
-    /// Of A, then of B.
-    left: [Left; 2],
+    left: BySort<Left>,
     candidates: Vec<Candidate>,
     cost: usize,
     passed: usize,
@@ -184,11 +175,13 @@ impl Repair {
     }
 
     fn start(&mut self, after: After, edited: Edited) -> Option<()> {
-        for (left, master) in self.left.iter_mut().zip(after.masters) {
+        let left = self.left.iter_mut().flatten();
+        for (left, master) in left.zip(after.masters.iter().flatten()) {
             refill(&mut left.new, master.nodes.iter().map(|node| node.left));
             left.old.clone_from(&left.new);
         }
-        for (left, blocks) in self.left.iter_mut().zip(after.blocks) {
+        let left = self.left.iter_mut().flatten();
+        for (left, blocks) in left.zip(after.blocks.iter().flatten()) {
             let sizes = left.new.chunks(BLOCK).map(<[u16]>::len);
             let boxes = blocks.bounds.iter().cloned().zip(sizes);
             refill(
@@ -202,7 +195,7 @@ impl Repair {
         let Some(end) = after.end(edited.side, edited.number) else {
             return Some(());
         };
-        self.left[end.side].old[end.place] = 0;
+        self.left[end.sort][end.side].old[end.place] = 0;
         self.compare(after, end)
     }
 
@@ -225,7 +218,7 @@ impl Repair {
         let ends = [after.end(0, a)?, after.end(1, b)?];
         let unchanged = ends
             .iter()
-            .all(|end| self.left[end.side].is_unchanged(end.place));
+            .all(|end| self.left[end.sort][end.side].is_unchanged(end.place));
         for end in ends {
             self.pass(end, amount)?;
         }
@@ -240,13 +233,13 @@ impl Repair {
     fn keep(&mut self, ends: [End; 2], old: Link, links: &mut Vec<Link>) {
         links.push(old);
         for end in ends {
-            self.left[end.side].spend(end.place, old.1);
+            self.left[end.sort][end.side].spend(end.place, old.1);
         }
     }
 
     /// What the old link took from its node; none if that is more than it had.
     fn pass(&mut self, end: End, amount: u16) -> Option<()> {
-        let old = &mut self.left[end.side].old[end.place];
+        let old = &mut self.left[end.sort][end.side].old[end.place];
         *old = old.checked_sub(amount)?;
         Some(())
     }
@@ -266,7 +259,7 @@ impl Repair {
     }
 
     fn has(&self, end: End) -> bool {
-        self.left[end.side].has(end.place)
+        self.left[end.sort][end.side].has(end.place)
     }
 
     /// The candidate's partner is used up: its runner-up follows, or another one is searched for.
@@ -305,13 +298,13 @@ impl Repair {
         ends: [End; 2],
         links: &mut Vec<Link>,
     ) -> Option<()> {
-        let [one, other] = ends.map(|end| self.left[end.side].new[end.place]);
+        let [one, other] = ends.map(|end| self.left[end.sort][end.side].new[end.place]);
         let amount = one.min(other);
         if amount > 0 {
             links.push((key, amount));
         }
         for end in ends {
-            self.left[end.side].spend(end.place, amount);
+            self.left[end.sort][end.side].spend(end.place, amount);
             self.compare(after, end)?;
         }
         Some(())
@@ -320,7 +313,7 @@ impl Repair {
     /// Makes a node a candidate where it has something left and had nothing, and only there: while it had something, its old
     /// links tell the next ones.
     fn compare(&mut self, after: After, end: End) -> Option<()> {
-        let left = &self.left[end.side];
+        let left = &self.left[end.sort][end.side];
         let richer = left.new[end.place] > 0 && left.old[end.place] == 0;
         let mut candidates = self.candidates.iter();
         match candidates.position(|candidate| candidate.richer == end) {
@@ -333,7 +326,7 @@ impl Repair {
 
     fn search(&mut self, after: After, richer: End) -> Option<()> {
         self.cost += 1;
-        let left = &mut self.left[1 - richer.side];
+        let left = &mut self.left[richer.sort][1 - richer.side];
         if let [Some(partner), runner_up] = after.nearest(richer, left, &mut self.cost) {
             let key = after.key(richer, partner);
             self.candidates.push(Candidate {

@@ -1,10 +1,12 @@
 //! The lines as text: all of them for a chart, and the tables that sum them up.
 
-use model::generate::drawing::{Capacities, CAPACITIES};
+use model::generate::drawing::{Capacities, Sorts, CAPACITIES};
 
 use crate::cases::{Call, CALLS, EDITS};
 use crate::measure::{Line, PLAIN_EVERY, ROUNDS};
-use crate::shapes::{Class, Count, Shape, COUNTS, DRAWINGS, GLYPH_NODES, SHAPES};
+use crate::shapes::{
+    sorts_name, Class, Count, Shape, COUNTS, DRAWINGS, GLYPHS, GLYPH_NODES, SHAPES,
+};
 
 /// The size that the aims and most tables are about, and the one that growth is counted from.
 pub const FULL: Count = Count::Each(512);
@@ -42,10 +44,7 @@ fn count_name(count: Count) -> String {
 
 /// Where a line stands, in words.
 pub fn place(line: &Line) -> String {
-    let Class {
-        shape, capacities, ..
-    } = line.class;
-    let (name, capacities) = (shape.name(), capacities_name(capacities));
+    let (name, capacities) = (line.class.name(), capacities_name(line.class.capacities));
     format!("{}: {name}, capacities {capacities}", line.call.name())
 }
 
@@ -76,10 +75,11 @@ pub fn growth(lines: &[Line], line: &Line) -> Option<f64> {
     (line.class.count == FULL).then_some(longer)
 }
 
-/// How many times longer the engine takes than in the uniform family; none where that was not timed.
+/// How many times longer the engine takes than in the uniform family, all on-curve; none where that was not timed.
 pub fn by_uniform(lines: &[Line], line: &Line) -> Option<f64> {
     let class = Class {
         shape: Shape::Uniform,
+        sorts: Sorts::OnCurve,
         ..line.class
     };
     longer_than(lines, line, class)
@@ -94,17 +94,20 @@ fn longer_than(lines: &[Line], line: &Line, class: Class) -> Option<f64> {
 
 /// All lines with tabs between their fields.
 pub fn lines_text(lines: &[Line]) -> String {
-    let mut text = "family\tnodes\tcapacities\tcall\tengine\tworst\tsame\tplain\n".to_string();
+    let mut text =
+        "family\tnodes\tcapacities\tsorts\tcall\tengine\tworst\tsame\tplain\n".to_string();
     for line in lines {
         let Class {
             shape,
             count,
             capacities,
+            sorts,
         } = line.class;
         let names = [
             shape.name(),
             &count_name(count),
             capacities_name(capacities),
+            sorts_name(sorts),
             line.call.name(),
         ];
         let times = [line.engine, line.engine_worst, line.same, line.plain];
@@ -168,7 +171,8 @@ pub fn by_call(lines: &[Line]) -> String {
     table
 }
 
-/// A row for each family and its capacities at full size, and for glyphs: the edit that takes longest.
+/// A row for each family and its capacities at full size, and for glyphs: the edit that takes longest. Families with
+/// handles have a row without and a row with them.
 pub fn by_family(lines: &[Line]) -> String {
     let mut table = head(&[
         "Family",
@@ -182,9 +186,12 @@ pub fn by_family(lines: &[Line]) -> String {
         "plain / engine",
         "512 / 256",
     ]);
-    for shape in SHAPES.into_iter().chain([Shape::Glyph]) {
+    let on_curve = SHAPES.into_iter().chain(GLYPHS);
+    let on_curve = on_curve.map(|shape| (shape, Sorts::OnCurve));
+    let handles = [Shape::Curves, Shape::GlyphCurves].map(|shape| (shape, Sorts::Outline));
+    for (shape, sorts) in on_curve.chain(handles) {
         for capacities in CAPACITIES {
-            let count = if shape == Shape::Glyph {
+            let count = if GLYPHS.contains(&shape) {
                 Count::Glyph
             } else {
                 FULL
@@ -193,6 +200,7 @@ pub fn by_family(lines: &[Line]) -> String {
                 shape,
                 count,
                 capacities,
+                sorts,
             };
             let edits = lines
                 .iter()
@@ -202,7 +210,7 @@ pub fn by_family(lines: &[Line]) -> String {
             };
             let kind = line.call.name().trim_start_matches("Edit, ");
             table += &row(&[
-                shape.name(),
+                &class.name(),
                 capacities_name(capacities),
                 kind,
                 &whole(line.engine),

@@ -1,9 +1,10 @@
-//! The engine's own method: nodes in tiles, the check without a join, the chain, and links that are repaired.
+//! The engine's own method, each sort by itself: nodes in tiles, the check without a join, the chain, and links that are repaired.
 
 use crate::blocks::Blocks;
-use crate::bytes::{rows, Link, Master};
+use crate::bytes::{rows, Link};
 use crate::chain::Chain;
 use crate::check::Check;
+use crate::masters::{BySort, Master};
 use crate::order::Order;
 use crate::peer::{Edited, Method};
 use crate::repair::{After, Repair};
@@ -11,36 +12,43 @@ use crate::repair::{After, Repair};
 #[derive(Default)]
 pub struct Same {
     order: Order,
-    /// Of A, then of B.
-    blocks: [Blocks; 2],
+    blocks: BySort<Blocks>,
     check: Check,
     chain: Chain,
     repair: Repair,
 }
 
 impl Method for Same {
-    fn arrange(&mut self, side: usize, master: &mut Master) {
-        master.arrange(self.order.rows(&master.nodes));
-        self.blocks[side].fill(&master.nodes);
+    fn arrange(&mut self, masters: &mut BySort<Master>, side: usize) {
+        for (masters, blocks) in masters.iter_mut().zip(&mut self.blocks) {
+            let master = &mut masters[side];
+            master.arrange(self.order.rows(&master.nodes));
+            blocks[side].fill(&master.nodes);
+        }
     }
 
-    fn rearrange(&mut self, side: usize, master: &mut Master, known: &[u16]) {
-        master.arrange(self.order.resume(known, master));
-        self.blocks[side].fill(&master.nodes);
+    fn rearrange(&mut self, masters: &mut BySort<Master>, edited: Edited, known: &[Vec<u16>; 2]) {
+        let Edited { side, number } = edited;
+        let parts = masters.iter_mut().zip(&mut self.blocks).zip(known);
+        for ((masters, blocks), known) in parts {
+            let master = &mut masters[side];
+            master.arrange(self.order.resume(known, number, master));
+            blocks[side].fill(&master.nodes);
+        }
     }
 
-    fn join(&mut self, masters: &[Master; 2], links: &mut Vec<Link>) {
+    fn join(&mut self, masters: &BySort<Master>, links: &mut Vec<Link>) {
         self.chain.join(masters, &self.blocks, links);
     }
 
-    fn is_finished(&mut self, masters: &[Master; 2], list: &[u8]) -> bool {
+    fn is_finished(&mut self, masters: &BySort<Master>, list: &[u8]) -> bool {
         self.check.is_finished(masters, &self.blocks, list)
     }
 
     /// Repaired links are kept only where the check says yes to them.
     fn repair(
         &mut self,
-        masters: &[Master; 2],
+        masters: &BySort<Master>,
         list: &[u8],
         edited: Edited,
         links: &mut Vec<Link>,

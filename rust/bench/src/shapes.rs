@@ -1,10 +1,10 @@
-//! The families of drawings that are timed, and their classes by count and capacities.
+//! The families of drawings that are timed, and their classes by count, capacities and sorts.
 
 use std::array;
 use std::ops::RangeInclusive;
 
 use model::buffers::table_of;
-use model::generate::drawing::{Capacities, CAPACITIES};
+use model::generate::drawing::{Capacities, Sorts, CAPACITIES};
 use model::generate::places::{anywhere, near, places, Family, Place};
 use model::generate::random::Random;
 use model::rows::Node;
@@ -29,12 +29,16 @@ pub enum Shape {
     /// Two clusters in opposite corners, most of the light in one, of the bold
     /// in the other.
     TwoClusters,
+    /// A closed contour, each node followed by what are its two handles where the drawing has handles.
+    Curves,
     /// Outlines with as many nodes as a glyph's have, 40 to 150 in each master.
     Glyph,
+    /// Curves with as many.
+    GlyphCurves,
 }
 
 /// The families that are drawn with any number of nodes.
-pub const SHAPES: [Shape; 8] = [
+pub const SHAPES: [Shape; 9] = [
     Shape::Uniform,
     Shape::SmallGrid,
     Shape::ClusterAndLine,
@@ -43,7 +47,11 @@ pub const SHAPES: [Shape; 8] = [
     Shape::EqualGaps,
     Shape::OnePoint,
     Shape::TwoClusters,
+    Shape::Curves,
 ];
+
+/// Those with a glyph's number of nodes.
+pub const GLYPHS: [Shape; 2] = [Shape::Glyph, Shape::GlyphCurves];
 
 impl Shape {
     pub fn name(self) -> &'static str {
@@ -56,7 +64,17 @@ impl Shape {
             Shape::EqualGaps => "line, equal gaps",
             Shape::OnePoint => "one point",
             Shape::TwoClusters => "two far clusters",
+            Shape::Curves => "curves",
             Shape::Glyph => "glyph outline",
+            Shape::GlyphCurves => "glyph curves",
+        }
+    }
+
+    /// The sorts that are timed beside each other at the same places: curves have handles, the others are half off-curve.
+    pub fn sorts(self) -> [Sorts; 2] {
+        match self {
+            Shape::Curves | Shape::GlyphCurves => [Sorts::OnCurve, Sorts::Outline],
+            _ => [Sorts::OnCurve, Sorts::Mixed],
         }
     }
 
@@ -74,11 +92,9 @@ impl Shape {
                 (0..count as i64).map(|n| (12_000, 30 * n)).collect(),
             ),
             Shape::Outline => places(random, Family::Outline, count, count),
-            Shape::Glyph => {
-                let (least, most) = (*GLYPH_NODES.start(), *GLYPH_NODES.end());
-                let bold = random.size(count - 8, count + 8).clamp(least, most);
-                places(random, Family::Outline, count, bold)
-            }
+            Shape::Curves => places(random, Family::Curves, count, count),
+            Shape::Glyph => glyph(random, Family::Outline, count),
+            Shape::GlyphCurves => glyph(random, Family::Curves, count),
             Shape::ShrinkingGaps => by_turns(&shrinking_line(2 * count)),
             Shape::EqualGaps => by_turns(&equal_line(2 * count)),
             Shape::OnePoint => (vec![(321, -123); count], vec![(321, -123); count]),
@@ -88,6 +104,13 @@ impl Shape {
             ),
         }
     }
+}
+
+/// So many places of A, and about as many of B.
+fn glyph(random: &mut Random, family: Family, count: usize) -> (Vec<Place>, Vec<Place>) {
+    let (least, most) = (*GLYPH_NODES.start(), *GLYPH_NODES.end());
+    let bold = random.size(count - 8, count + 8).clamp(least, most);
+    places(random, family, count, bold)
 }
 
 fn each(count: usize, place: impl FnMut() -> Place) -> Vec<Place> {
@@ -159,32 +182,56 @@ pub struct Class {
     pub shape: Shape,
     pub count: Count,
     pub capacities: Capacities,
+    pub sorts: Sorts,
 }
 
 impl Class {
-    /// All classes that are timed, those together that differ in their count alone.
+    /// The family's name, and what is off-curve.
+    pub fn name(&self) -> String {
+        match self.sorts {
+            Sorts::OnCurve => self.shape.name().to_string(),
+            sorts => format!("{}, {}", self.shape.name(), sorts_name(sorts)),
+        }
+    }
+
+    /// All classes that are timed, those together that differ in their count and their sorts alone.
     pub fn groups() -> Vec<Vec<Class>> {
         let sized = SHAPES.map(|shape| (shape, COUNTS.map(Count::Each).to_vec()));
         let kinds = sized
             .into_iter()
-            .chain([(Shape::Glyph, vec![Count::Glyph])]);
+            .chain(GLYPHS.map(|shape| (shape, vec![Count::Glyph])));
         let groups = kinds.flat_map(|(shape, counts)| {
             CAPACITIES.map(|capacities| {
-                let class = |count: &Count| Class {
-                    shape,
-                    count: *count,
-                    capacities,
+                let classes = |count: &Count| {
+                    let count = *count;
+                    shape.sorts().map(|sorts| Class {
+                        shape,
+                        count,
+                        capacities,
+                        sorts,
+                    })
                 };
-                counts.iter().map(class).collect()
+                counts.iter().flat_map(classes).collect()
             })
         });
         groups.collect()
     }
 
+    /// Those whose sorts have this text in their name.
+    pub fn groups_of(text: &str) -> Vec<Vec<Class>> {
+        let mut groups = Class::groups();
+        for group in &mut groups {
+            group.retain(|class| sorts_name(class.sorts).contains(text));
+        }
+        groups.retain(|group| !group.is_empty());
+        groups
+    }
+
     pub fn drawings(self) -> [Drawing; DRAWINGS] {
         array::from_fn(|seed| {
             let random = &mut Random::new(seed as u64);
-            Drawing::new(random, self.shape, self.count.of(seed), self.capacities)
+            let (count, sorts) = (self.count.of(seed), self.sorts);
+            Drawing::of_sorts(random, self.shape, count, self.capacities, sorts)
         })
     }
 }
@@ -196,12 +243,29 @@ pub struct Drawing {
 }
 
 impl Drawing {
+    /// All on-curve.
     pub fn new(random: &mut Random, shape: Shape, count: usize, capacities: Capacities) -> Drawing {
+        Drawing::of_sorts(random, shape, count, capacities, Sorts::OnCurve)
+    }
+
+    /// The same nodes whatever the sorts, which are drawn apart from all else.
+    pub fn of_sorts(
+        random: &mut Random,
+        shape: Shape,
+        count: usize,
+        capacities: Capacities,
+        sorts: Sorts,
+    ) -> Drawing {
         let (a, b) = shape.places(random, count);
-        let mut master = |places: &[Place]| master(random, shape, places, capacities);
+        let (sorts_a, sorts_b) = sorts.sorts(&mut random.clone(), a.len(), b.len());
+        let mut master = |places: &[Place], sorts: &[u64]| {
+            let places: Vec<(Place, u64)> =
+                places.iter().copied().zip(sorts.iter().copied()).collect();
+            master(random, shape, &places, capacities)
+        };
         Drawing {
-            a: master(&a),
-            b: master(&b),
+            a: master(&a, &sorts_a),
+            b: master(&b, &sorts_b),
         }
     }
 
@@ -210,10 +274,19 @@ impl Drawing {
     }
 }
 
+/// What is off-curve, in words.
+pub fn sorts_name(sorts: Sorts) -> &'static str {
+    match sorts {
+        Sorts::OnCurve => "on-curve",
+        Sorts::Outline => "with handles",
+        _ => "half off-curve",
+    }
+}
+
 fn master(
     random: &mut Random,
     shape: Shape,
-    places: &[Place],
+    places: &[(Place, u64)],
     capacities: Capacities,
 ) -> Vec<Node> {
     let mut numbers = numbers(random, places.len());
@@ -223,11 +296,8 @@ fn master(
     } else {
         random.shuffle(&mut numbers);
     }
-    let node = |(place, number): (&Place, u64)| Node {
-        number,
-        horizontal: place.0,
-        vertical: place.1,
-        capacity: capacities.capacity(random),
+    let node = |((place, sort), number): (&(Place, u64), u64)| {
+        Node::new(number, place.0, place.1, capacities.capacity(random)).with_sort(*sort)
     };
     let mut nodes: Vec<Node> = places.iter().zip(numbers).map(node).collect();
     // The first row stays, so that the line of shrinking gaps is entered at its end.

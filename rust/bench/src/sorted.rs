@@ -1,13 +1,15 @@
-//! The plain way, what a good ordinary programmer writes: all pairs packed into
+//! The plain way, what a good ordinary programmer writes: all pairs of one sort packed into
 //! integers, sorted, and passed over once. Every buffer is kept between joins.
 
-use crate::bytes::{link, Link, Master, Node};
+use crate::bytes::{link, Link, Node};
+use crate::masters::{BySort, Master};
 use crate::peer::Method;
 
 #[derive(Default)]
 pub struct Sorted {
-    a: Vec<Node>,
-    b: Vec<Node>,
+    /// The nodes of each master with their sorts.
+    a: Vec<(Node, usize)>,
+    b: Vec<(Node, usize)>,
     pairs: Vec<u64>,
 }
 
@@ -16,15 +18,19 @@ const RANK_BITS: u32 = 9;
 const RANK_MASK: u64 = (1 << RANK_BITS) - 1;
 
 impl Method for Sorted {
-    fn join(&mut self, [a, b]: &[Master; 2], links: &mut Vec<Link>) {
-        self.a.clone_from(&a.nodes);
-        self.b.clone_from(&b.nodes);
+    fn join(&mut self, masters: &BySort<Master>, links: &mut Vec<Link>) {
+        self.a.clear();
+        self.b.clear();
+        for (sort, [a, b]) in masters.iter().enumerate() {
+            self.a.extend(a.nodes.iter().map(|node| (*node, sort)));
+            self.b.extend(b.nodes.iter().map(|node| (*node, sort)));
+        }
         self.sort_pairs();
         self.take_pairs(links);
     }
 
     /// It knows no other way than to join and compare.
-    fn is_finished(&mut self, _: &[Master; 2], _: &[u8]) -> bool {
+    fn is_finished(&mut self, _: &BySort<Master>, _: &[u8]) -> bool {
         false
     }
 }
@@ -33,35 +39,41 @@ impl Sorted {
     /// With the nodes in the order of their numbers, ranks settle ties as the
     /// numbers do, and are short enough to pack.
     fn sort_pairs(&mut self) {
-        self.a.sort_unstable_by_key(|node| node.number);
-        self.b.sort_unstable_by_key(|node| node.number);
+        self.a.sort_unstable_by_key(|(node, _)| node.number);
+        self.b.sort_unstable_by_key(|(node, _)| node.number);
         self.pairs.clear();
-        for (rank, a) in (0..).zip(&self.a) {
-            let pair = |(other, b): (u64, &Node)| {
+        for (rank, (a, sort)) in (0..).zip(&self.a) {
+            let pair = |(other, (b, _)): (u64, &(Node, usize))| {
                 (u64::from(a.distance(b)) << RANK_BITS | rank) << RANK_BITS | other
             };
-            self.pairs.extend((0..).zip(&self.b).map(pair));
+            let others = (0..).zip(&self.b).filter(|(_, (_, other))| other == sort);
+            self.pairs.extend(others.map(pair));
         }
         self.pairs.sort_unstable();
     }
 
     fn take_pairs(&mut self, links: &mut Vec<Link>) {
-        let sum = |nodes: &[Node]| nodes.iter().map(|node| u32::from(node.left)).sum::<u32>();
-        let mut open = sum(&self.a).min(sum(&self.b));
+        let mut open = [0, 1].map(|sort| sum(&self.a, sort).min(sum(&self.b, sort)));
         links.clear();
         for pair in &self.pairs {
-            if open == 0 {
+            if open == [0, 0] {
                 break;
             }
-            let a = &mut self.a[(pair >> RANK_BITS & RANK_MASK) as usize];
-            let b = &mut self.b[(pair & RANK_MASK) as usize];
+            let (a, sort) = &mut self.a[(pair >> RANK_BITS & RANK_MASK) as usize];
+            let (b, _) = &mut self.b[(pair & RANK_MASK) as usize];
             let amount = a.left.min(b.left);
             if amount > 0 {
                 a.left -= amount;
                 b.left -= amount;
-                open -= u32::from(amount);
+                open[*sort] -= u32::from(amount);
                 links.push(link(a, b, amount));
             }
         }
     }
+}
+
+/// What the nodes of this sort have left.
+fn sum(nodes: &[(Node, usize)], sort: usize) -> u32 {
+    let of_sort = nodes.iter().filter(|(_, other)| *other == sort);
+    of_sort.map(|(node, _)| u32::from(node.left)).sum()
 }

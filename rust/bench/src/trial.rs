@@ -70,22 +70,28 @@ pub fn least(caller: &mut dyn Caller, request: &Request, lent: &Buffers, runs: u
     (0..runs).map(run).fold(f64::INFINITY, f64::min)
 }
 
-/// A line for the edit, then one for each node: its master, number, horizontal and vertical position, capacity.
+/// A line for the edit, then one for each node: its master, number, horizontal and vertical position, capacity, sort.
 impl Display for Trial {
     fn fmt(&self, text: &mut Formatter) -> std::fmt::Result {
         let edit = &self.edit;
         writeln!(
             text,
-            "edit {} {} {} {} {} {}",
-            edit.kind, edit.master, edit.number, edit.horizontal, edit.vertical, edit.capacity
+            "edit {} {} {} {} {} {} {}",
+            edit.kind,
+            edit.master,
+            edit.number,
+            edit.horizontal,
+            edit.vertical,
+            edit.capacity,
+            edit.sort
         )?;
         for (name, nodes) in [("a", &self.drawing.a), ("b", &self.drawing.b)] {
             for node in nodes {
                 let (across, up) = (node.horizontal, node.vertical);
                 writeln!(
                     text,
-                    "{name} {} {across} {up} {}",
-                    node.number, node.capacity
+                    "{name} {} {across} {up} {} {}",
+                    node.number, node.capacity, node.sort
                 )?;
             }
         }
@@ -94,7 +100,7 @@ impl Display for Trial {
 }
 
 impl Trial {
-    /// The trial of such a text; lines that begin with `#` say nothing.
+    /// The trial of such a text; lines that begin with `#` say nothing, and a line without a sort is on-curve.
     pub fn read(text: &str) -> Result<Trial, String> {
         let mut drawing = Drawing {
             a: Vec::new(),
@@ -107,14 +113,18 @@ impl Trial {
             let name = words.next().ok_or_else(wrong)?;
             let fields: Result<Vec<i64>, _> = words.map(str::parse).collect();
             match (name, fields.map_err(|_| wrong())?.as_slice()) {
-                ("a" | "b", &[number, across, up, capacity]) => {
+                ("a" | "b", &[number, across, up, capacity, ref sort @ ..]) if sort.len() < 2 => {
                     let node = Node::new(number as u64, across, up, capacity as u64);
+                    let node = node.with_sort(sort_of(sort));
                     match name {
                         "a" => drawing.a.push(node),
                         _ => drawing.b.push(node),
                     }
                 }
-                ("edit", &[kind, master, number, horizontal, vertical, capacity]) => {
+                (
+                    "edit",
+                    &[kind, master, number, horizontal, vertical, capacity, ref sort @ ..],
+                ) if sort.len() < 2 => {
                     edit = Ok(Edit {
                         kind: kind as u64,
                         master: master as u64,
@@ -122,6 +132,7 @@ impl Trial {
                         horizontal,
                         vertical,
                         capacity: capacity as u64,
+                        sort: sort_of(sort),
                     });
                 }
                 _ => return Err(wrong()),
@@ -130,4 +141,8 @@ impl Trial {
         let edit = edit?;
         Ok(Trial { drawing, edit })
     }
+}
+
+fn sort_of(field: &[i64]) -> u64 {
+    field.first().map_or(SORT_ON_CURVE, |sort| *sort as u64)
 }

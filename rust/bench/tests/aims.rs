@@ -5,7 +5,7 @@ use bench::cases::{Call, EDITS};
 use bench::measure::Line;
 use bench::report::{FULL, HALF};
 use bench::shapes::{Class, Count, Shape, SHAPES};
-use model::generate::drawing::Capacities;
+use model::generate::drawing::{Capacities, Sorts};
 
 fn line(shape: Shape, count: Count, call: Call) -> Line {
     let engine = if count == FULL { 400.0 } else { 100.0 };
@@ -14,6 +14,7 @@ fn line(shape: Shape, count: Count, call: Call) -> Line {
             shape,
             count,
             capacities: Capacities::Few,
+            sorts: Sorts::OnCurve,
         },
         call,
         engine,
@@ -79,7 +80,7 @@ fn one_line_misses_an_aim() {
         (6, |line| line.plain = line.engine * 9.9, "9.90 times"),
         (8, |line| line.engine *= 3.01, "3.01 times"),
     ];
-    for (call, lines, misses) in [(Call::Move, 32, &edit[..]), (Call::Pair, 8, &pair[..])] {
+    for (call, lines, misses) in [(Call::Move, 36, &edit[..]), (Call::Pair, 9, &pair[..])] {
         for (place, slip, figure) in misses {
             let row = &run(call, *slip)[*place];
             let missed = format!("not reached on 1 of {lines} lines: {figure}");

@@ -3,8 +3,9 @@
 mod masters;
 
 use bench::blocks::{Blocks, Partner, BLOCK};
-use bench::bytes::{link, write_from, Link, Master, Node};
+use bench::bytes::{link, write_from, Link, Node};
 use bench::check::Check;
+use bench::masters::{BySort, Master};
 use bench::shapes::{Drawing, SHAPES};
 use masters::Arranged;
 use model::generate::drawing::CAPACITIES;
@@ -29,37 +30,43 @@ fn wide(count: usize) -> Blocks {
     wide
 }
 
-/// Drawings of every timed family and all capacities, of some blocks and a part of one.
+/// Drawings of every timed family, all capacities and its sorts, of some blocks and a part of one.
 fn drawings() -> impl Iterator<Item = (u64, Random, Arranged)> {
-    let kinds = SHAPES
-        .into_iter()
-        .flat_map(|shape| CAPACITIES.map(|capacities| (shape, capacities)));
-    (0..).zip(kinds).map(|(seed, (shape, capacities))| {
+    let mut kinds = Vec::new();
+    for shape in SHAPES {
+        for capacities in CAPACITIES {
+            kinds.extend(shape.sorts().map(|sorts| (shape, capacities, sorts)));
+        }
+    }
+    (0..).zip(kinds).map(|(seed, (shape, capacities, sorts))| {
         let mut random = Random::new(seed);
         let count = random.size(3 * BLOCK, 5 * BLOCK);
-        let drawing = Drawing::new(&mut random, shape, count, capacities);
+        let drawing = Drawing::of_sorts(&mut random, shape, count, capacities, sorts);
         (seed, random, Arranged::new(&drawing.tables().into()))
     })
 }
 
 /// A join that passes over some pairs: each of its rows is right of itself.
-fn join_without(masters: &[Master; 2], passed: impl Fn(u64) -> bool) -> Vec<Link> {
-    let [mut a, mut b] = masters.each_ref().map(|master| master.nodes.clone());
-    let mut pairs = Vec::new();
-    for (i, in_a) in a.iter().enumerate() {
-        let others = b.iter().enumerate();
-        pairs.extend(others.map(|(j, in_b)| (link(in_a, in_b, 0).0, i, j)));
-    }
-    pairs.sort_unstable();
+fn join_without(masters: &BySort<Master>, passed: impl Fn(u64) -> bool) -> Vec<Link> {
     let mut links = Vec::new();
-    for (key, i, j) in pairs {
-        let amount = a[i].left.min(b[j].left);
-        if amount > 0 && !passed(key) {
-            a[i].left -= amount;
-            b[j].left -= amount;
-            links.push((key, amount));
+    for masters in masters {
+        let [mut a, mut b] = masters.each_ref().map(|master| master.nodes.clone());
+        let mut pairs = Vec::new();
+        for (i, in_a) in a.iter().enumerate() {
+            let others = b.iter().enumerate();
+            pairs.extend(others.map(|(j, in_b)| (link(in_a, in_b, 0).0, i, j)));
+        }
+        pairs.sort_unstable();
+        for (key, i, j) in pairs {
+            let amount = a[i].left.min(b[j].left);
+            if amount > 0 && !passed(key) {
+                a[i].left -= amount;
+                b[j].left -= amount;
+                links.push((key, amount));
+            }
         }
     }
+    links.sort_unstable();
     links
 }
 
@@ -67,7 +74,10 @@ fn join_without(masters: &[Master; 2], passed: impl Fn(u64) -> bool) -> Vec<Link
 fn says(Arranged { masters, blocks }: &Arranged, links: &[Link]) -> [bool; 2] {
     let mut list = vec![0; LIST_BYTES];
     write_from(&mut list, links, 0);
-    let wide = masters.each_ref().map(|master| wide(master.nodes.len()));
+    let wide = masters.each_ref().map(|masters| {
+        let masters = masters.each_ref();
+        masters.map(|master| wide(master.nodes.len()))
+    });
     [blocks, &wide].map(|blocks| Check::default().is_finished(masters, blocks, &list))
 }
 
@@ -114,7 +124,11 @@ fn the_check_says_the_same_without_blocks() {
 #[test]
 fn the_search_skips_no_nearest_partner() {
     let mut skipped = 0;
-    for (seed, mut random, Arranged { masters, blocks }) in drawings() {
+    let by_sort = drawings().flat_map(|(seed, random, Arranged { masters, blocks })| {
+        let parts = masters.into_iter().zip(blocks);
+        parts.map(move |(masters, blocks)| (seed, random.clone(), masters, blocks))
+    });
+    for (seed, mut random, masters, blocks) in by_sort {
         let nodes = &masters[1].nodes;
         let open: Vec<bool> = nodes.iter().map(|_| !random.once_in(3)).collect();
         for from in &masters[0].nodes {

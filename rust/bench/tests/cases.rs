@@ -8,7 +8,7 @@ use bench::shapes::{Class, Count, Shape, SHAPES};
 use model::answer::{number_of, value_of};
 use model::buffers::{links_of, nodes_of};
 use model::engine::Buffers;
-use model::generate::drawing::{Capacities, CAPACITIES};
+use model::generate::drawing::{Capacities, Sorts, CAPACITIES};
 use model::generate::random::Random;
 use model::rows::Node;
 
@@ -19,16 +19,19 @@ fn each(call: Call, check: impl Fn(&Buffers, u32, &Buffers)) {
     for shape in SHAPES {
         for capacities in CAPACITIES {
             let count = Count::Each(NODES);
-            let class = Class {
-                shape,
-                count,
-                capacities,
-            };
-            for (seed, drawing) in (0..).zip(class.drawings()) {
-                let case = Case::new(&mut Random::new(seed), &drawing, call);
-                let mut left = case.lent.clone();
-                let answer = Peer::<Same>::default().run(&case.request, &mut left);
-                check(&case.lent, answer, &left);
+            for sorts in shape.sorts() {
+                let class = Class {
+                    shape,
+                    count,
+                    capacities,
+                    sorts,
+                };
+                for (seed, drawing) in (0..).zip(class.drawings()) {
+                    let case = Case::new(&mut Random::new(seed), &drawing, call);
+                    let mut left = case.lent.clone();
+                    let answer = Peer::<Same>::default().run(&case.request, &mut left);
+                    check(&case.lent, answer, &left);
+                }
             }
         }
     }
@@ -79,6 +82,7 @@ fn edits_change_what_they_say() {
             panic!("one capacity");
         };
         assert_ne!(before.capacity, after.capacity);
+        assert_eq!(before.sort, after.sort);
     });
 }
 
@@ -87,7 +91,8 @@ fn a_step_goes_on_from_half() {
     each(Call::Step, |lent, answer, left| {
         let links = links_of(&lent.list).len();
         assert!(value_of(answer) == 1 && links_of(&left.list).len() == links + 1);
-        assert!((NODES / 2 - 1..NODES).contains(&links), "{links}");
+        // Of two sorts, a master may have more of one than the other has.
+        assert!((NODES / 3..NODES).contains(&links), "{links}");
     });
 }
 
@@ -115,6 +120,7 @@ fn arrivals_fill_a_master() {
         shape: Shape::Outline,
         count: Count::Each(512),
         capacities: Capacities::Few,
+        sorts: Sorts::Mixed,
     };
     for (seed, drawing) in (0..).zip(class.drawings()) {
         let case = Case::new(&mut Random::new(seed), &drawing, Call::Arrival);

@@ -9,7 +9,7 @@ use bench::shapes::{Class, Count, Shape};
 use bench::sorted::Sorted;
 use differential::Archive;
 use model::engine::{Buffers, Request};
-use model::generate::drawing::Capacities;
+use model::generate::drawing::{Capacities, Sorts};
 
 /// Right but for one thing that it does after each call.
 struct Wrong {
@@ -37,6 +37,7 @@ const CLASS: Class = Class {
     shape: Shape::Uniform,
     count: Count::Each(20),
     capacities: Capacities::Few,
+    sorts: Sorts::Mixed,
 };
 
 fn measure(bench: &mut Bench, call: Call) -> Result<(), String> {

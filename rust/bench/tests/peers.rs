@@ -10,7 +10,7 @@ use model::answer::number_of;
 use model::buffers::{list_of, table_of};
 use model::engine::{Buffers, Request};
 use model::generate::damage::{damage_list, damage_table, LIST_FAULTS, TABLE_FAULTS};
-use model::generate::drawing::{self, Size, CAPACITIES, NUMBERS, SIZES};
+use model::generate::drawing::{self, Size, CAPACITIES, NUMBERS, SIZES, SORTS};
 use model::generate::edits::{good_edit, KINDS};
 use model::generate::history::History;
 use model::generate::lengths::wrong_length;
@@ -36,10 +36,13 @@ fn timed_drawings_are_joined() {
     let mut drawings = 0;
     for shape in SHAPES {
         for capacities in CAPACITIES {
-            for count in [1, 2, 7, 64, 129, 512] {
+            for (count, sorts) in [1, 2, 7, 64, 129, 512]
+                .into_iter()
+                .flat_map(|count| shape.sorts().map(|sorts| (count, sorts)))
+            {
                 let mut random = Random::new(drawings);
-                let drawing = Drawing::new(&mut random, shape, count, capacities);
-                let what = format!("{shape:?} {count} {capacities:?} seed {drawings}");
+                let drawing = Drawing::of_sorts(&mut random, shape, count, capacities, sorts);
+                let what = format!("{shape:?} {count} {capacities:?} {sorts:?} seed {drawings}");
                 let mut lent = lent(&mut random, &drawing.a, &drawing.b);
                 lent.list = random.bytes(LIST_BYTES);
                 peers.run(&what, &Request::Pair, &lent);
@@ -87,8 +90,15 @@ fn generated_drawings_are_joined() {
                 for repeat in 0..repeats * NUMBERS.len() {
                     let mut random = Random::new(drawings);
                     let numbers = NUMBERS[repeat % NUMBERS.len()];
-                    let drawing =
-                        drawing::Drawing::of(&mut random, family, size, capacities, numbers);
+                    let sorts = SORTS[drawings as usize % SORTS.len()];
+                    let drawing = drawing::Drawing::of_sorts(
+                        &mut random,
+                        family,
+                        size,
+                        capacities,
+                        numbers,
+                        sorts,
+                    );
                     let what = format!("seed {drawings}\n{drawing}");
                     let mut lent = lent(&mut random, &drawing.a, &drawing.b);
                     lent.list = random.bytes(LIST_BYTES);

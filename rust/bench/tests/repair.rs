@@ -2,9 +2,10 @@
 
 mod masters;
 
-use bench::bytes::{link_of, rows, write_from, Link, Master};
+use bench::bytes::{link_of, rows, write_from, Link};
 use bench::calls::Calls;
 use bench::cases::{Case, EDITS};
+use bench::masters::{read, BySort, Master};
 use bench::peer::{Edited, Method, Peer};
 use bench::repair::{After, Repair};
 use bench::same::Same;
@@ -63,10 +64,10 @@ impl Done {
     /// The list by the whole method, from this list before the edit.
     fn by_same(&self, before: &[u8]) -> Vec<u8> {
         let (mut same, mut links) = (Same::default(), Vec::new());
-        let mut masters = <[Master; 2]>::default();
-        for (side, master) in masters.iter_mut().enumerate() {
-            assert_eq!(master.read(&self.tables[side]), Ok(()));
-            same.arrange(side, master);
+        let mut masters = BySort::<Master>::default();
+        for (side, table) in self.tables.iter().enumerate() {
+            assert_eq!(read(&mut masters, side, table), Ok(()));
+            same.arrange(&mut masters, side);
         }
         same.repair(&masters, before, self.edited, &mut links);
         list_by(&links)

@@ -2,9 +2,9 @@
 
 use std::collections::BTreeSet;
 
-use bench::shapes::{Class, Drawing, Shape, DRAWINGS, GLYPH_NODES, SHAPES};
+use bench::shapes::{Class, Drawing, Shape, DRAWINGS, GLYPHS, GLYPH_NODES, SHAPES};
 use model::buffers::{first_faulty_row, nodes_of};
-use model::generate::drawing::{Capacities, CAPACITIES};
+use model::generate::drawing::{Capacities, Sorts, CAPACITIES};
 use model::generate::random::Random;
 use model::join::squared_distance;
 use model::rows::Node;
@@ -134,9 +134,9 @@ fn glyphs_have_glyphs_counts() {
     let classes = Class::groups().concat();
     let glyphs: Vec<&Class> = classes
         .iter()
-        .filter(|class| class.shape == Shape::Glyph)
+        .filter(|class| GLYPHS.contains(&class.shape))
         .collect();
-    assert_eq!((classes.len(), glyphs.len()), (8 * 4 * 3 + 3, 3));
+    assert_eq!((classes.len(), glyphs.len()), (9 * 4 * 3 * 2 + 12, 12));
     for class in glyphs {
         let counts = class
             .drawings()
@@ -154,4 +154,45 @@ fn glyphs_have_glyphs_counts() {
             "masters are alike: {counts:?}"
         );
     }
+}
+
+/// The same nodes with other sorts: a third on-curve where there are handles, about half elsewhere.
+#[test]
+fn sorts_are_what_they_say() {
+    for class in Class::groups().concat() {
+        let on_curve = Class {
+            sorts: Sorts::OnCurve,
+            ..class
+        };
+        for (drawing, other) in class.drawings().iter().zip(on_curve.drawings()) {
+            for (nodes, others) in [(&drawing.a, other.a), (&drawing.b, other.b)] {
+                let bare = |node: &Node| node.with_sort(0);
+                assert!(nodes.iter().map(bare).eq(others), "{class:?}");
+                let off = nodes.iter().filter(|node| node.sort == 1).count();
+                let share = off * 100 / nodes.len();
+                let expected = match class.sorts {
+                    Sorts::OnCurve => 0..=0,
+                    Sorts::Outline => 63..=67,
+                    _ => 25..=75,
+                };
+                assert!(expected.contains(&share), "{class:?}: {share} % off-curve");
+            }
+        }
+    }
+}
+
+/// Nearly all handles are as close to a node as a node is to the next one, or closer.
+#[test]
+fn handles_are_close_to_their_nodes() {
+    let random = &mut Random::new(3);
+    let drawing = Drawing::of_sorts(random, Shape::Curves, FULL, Capacities::One, Sorts::Outline);
+    let (on, off): (Vec<Node>, Vec<Node>) = drawing.a.iter().partition(|node| node.sort == 0);
+    let nearest = |from: &Node, to: &[Node]| {
+        let distances = to.iter().map(|node| squared_distance(from, node));
+        distances.filter(|distance| *distance > 0).min().unwrap()
+    };
+    let close = off
+        .iter()
+        .filter(|handle| nearest(handle, &on) <= nearest(&on[0], &on[1..]));
+    assert!(close.count() * 10 > off.len() * 9);
 }
