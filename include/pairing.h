@@ -3,13 +3,14 @@
  *
  * This header is the manual of the C interface. Link with libpairing.a.
  *
- * Nodes have capacities. Of all pairs of a node of A (the light master) and a
- * node of B (the bold one) that both have something left, the earliest becomes
- * a link: its amount is the lesser of what the two have left, and both lose
- * that amount. This goes on until no such pair is left. The earliest pair is
- * the one with the smallest squared distance; among those the one with the
- * smaller A number, then the one with the smaller B number. The order of rows
- * has no say in it.
+ * Nodes have capacities, and each is of a sort: on-curve, or off-curve (a
+ * handle). A pair is a node of A (the light master) and a node of B (the bold
+ * one) of the same sort. Of all pairs whose nodes both have something left, the
+ * earliest becomes a link: its amount is the lesser of what the two have left,
+ * and both lose that amount. This goes on until no such pair is left. The
+ * earliest pair is the one with the smallest squared distance; among those the
+ * one with the smaller A number, then the one with the smaller B number. The
+ * order of rows has no say in it.
  *
  *
  * ROWS AND BUFFERS
@@ -23,7 +24,8 @@
  *                                 may use the same number
  *              2  horizontal  2   PAIRING_POSITION_MIN to .._MAX
  *              4  vertical    2   PAIRING_POSITION_MIN to .._MAX
- *              6  capacity    2   PAIRING_CAPACITY_MIN to .._MAX
+ *              6  capacity    1   PAIRING_CAPACITY_MIN to .._MAX
+ *              7  sort        1   a PAIRING_SORT_..
  * list       PAIRING_LIST_BYTES: PAIRING_LIST_ROWS rows, one a link; the
  *            links first, in the order in which they were taken, then zero
  *            rows
@@ -37,18 +39,22 @@
  *              2  number      2   of the node
  *              4  horizontal  2   arrival and move; else zero
  *              6  vertical    2   arrival and move; else zero
- *              8  capacity    2   arrival and new capacity; else zero
+ *              8  capacity    1   arrival and new capacity; else zero
+ *              9  sort        1   arrival and new capacity; else zero
  * counts     PAIRING_COUNTS_BYTES: PAIRING_BANDS counts of 2 bytes each
  *
+ * Capacity and sort are the low and the high byte of one field of two bytes: a
+ * table with capacities of two bytes reads as one of on-curve nodes alone.
+ *
  * A row of a table is faulty
- *  - if its number is not 0, and a position or the capacity is out of range,
- *    or an earlier row has the same number or the number 0;
+ *  - if its number is not 0, and a position, the capacity or the sort is out of
+ *    range, or an earlier row has the same number or the number 0;
  *  - if its number is 0, and another of its bytes is not.
  *
  * The finished list of two tables without a faulty row holds all their links
- * in order, then zero rows. Where both masters have nodes there is at least
- * one link, and there are fewer links than the two have nodes together; else
- * there is none.
+ * in order, then zero rows. Where both masters have nodes of the same sort
+ * there is at least one link, and there are fewer links than the two have nodes
+ * together; else there is none.
  *
  *
  * LENDING
@@ -121,6 +127,8 @@
 #define PAIRING_POSITION_MAX 16384
 #define PAIRING_CAPACITY_MIN 1
 #define PAIRING_CAPACITY_MAX 64
+#define PAIRING_SORT_ON_CURVE 0
+#define PAIRING_SORT_OFF_CURVE 1
 
 #define PAIRING_MASTER_A 0
 #define PAIRING_MASTER_B 1
@@ -176,7 +184,7 @@ uint32_t pairing_step(const uint8_t *a, size_t a_len,
  *   arrival        the node goes behind the last one
  *   departure      the later rows close up in order, the last becomes zero
  *   move           the two positions of its row are set
- *   new capacity   the capacity of its row is set
+ *   new capacity   the capacity and the sort of its row are set
  * No other row and not the other table is touched. Value: rows kept, which is
  * how many links from the first on the list has as before, their amounts
  * included; only rows from there on are written. An edit that changes nothing

@@ -195,6 +195,13 @@ public:
     Outcome pair() noexcept { return pairing::pair(a_, b_, list_); }
     Outcome step() noexcept { return pairing::step(a_, b_, list_); }
     Outcome edit(const Edit &edit) noexcept { return pairing::edit(a_, b_, list_, edit); }
+    // An edit that sets one of the two, and keeps the other as the node has it.
+    Outcome set_capacity(Master master, int number, int capacity) noexcept {
+        return edit(Edit::new_capacity(master, number, capacity, node(master, number).sort()));
+    }
+    Outcome set_sort(Master master, int number, Sort sort) noexcept {
+        return edit(Edit::new_capacity(master, number, node(master, number).capacity(), sort));
+    }
     Outcome spare(Master master, int number) const noexcept { return pairing::spare(a_, b_, list_, master, number); }
     Outcome bands(Counts &counts) const noexcept { return pairing::bands(a_, b_, list_, counts); }
 
@@ -207,6 +214,12 @@ private:
         Table table;
         for (std::size_t row = 0; row < nodes.size(); ++row) table[row] = nodes[row];
         return table;
+    }
+    // For a number that the master has not, fields in range: it is then the number that the engine refuses.
+    Node node(Master master, int number) const noexcept {
+        for (const Node &one : master == Master::light ? light() : bold())
+            if (one.number() == number) return one;
+        return {0, 0, 0, PAIRING_CAPACITY_MIN};
     }
 
     Table a_;

@@ -18,6 +18,8 @@ namespace pairing {
 
 enum class Master : std::uint8_t { a = PAIRING_MASTER_A, b = PAIRING_MASTER_B, light = a, bold = b };
 
+enum class Sort : std::uint8_t { on_curve = PAIRING_SORT_ON_CURVE, off_curve = PAIRING_SORT_OFF_CURVE };
+
 enum class Kind : std::uint8_t {
     arrival = PAIRING_KIND_ARRIVAL,
     departure = PAIRING_KIND_DEPARTURE,
@@ -63,12 +65,16 @@ constexpr void put(std::uint8_t *bytes, std::size_t width, std::uint32_t value) 
     for (std::size_t k = 0; k < width; ++k) bytes[k] = static_cast<std::uint8_t>(value >> 8 * k);
 }
 
-// The four fields of a node; says whether they can hold the values, and puts nothing where they cannot.
-constexpr bool put_node(std::uint8_t *bytes, int number, int horizontal, int vertical, int capacity) noexcept {
-    if (number < 0 || number > 0xffff || capacity < 0 || capacity > 0xffff) return false;
+// The five fields of a node; says whether they can hold the values, and puts nothing where they cannot. A capacity has
+// one byte, since a greater one would run into the sort. Any sort fits; the engine refuses one above off-curve.
+constexpr bool put_node(std::uint8_t *bytes, int number, int horizontal, int vertical, int capacity,
+                        Sort sort) noexcept {
+    if (number < 0 || number > 0xffff || capacity < 0 || capacity > 0xff) return false;
     if (horizontal < -0x8000 || horizontal > 0x7fff || vertical < -0x8000 || vertical > 0x7fff) return false;
-    const int fields[] = {number, horizontal, vertical, capacity};
-    for (std::size_t k = 0; k < 4; ++k) put(bytes + 2 * k, 2, static_cast<std::uint32_t>(fields[k]));
+    const int fields[] = {number, horizontal, vertical};
+    for (std::size_t k = 0; k < 3; ++k) put(bytes + 2 * k, 2, static_cast<std::uint32_t>(fields[k]));
+    bytes[6] = static_cast<std::uint8_t>(capacity);
+    bytes[7] = static_cast<std::uint8_t>(sort);
     return true;
 }
 
@@ -100,14 +106,15 @@ protected:
 class Node : public detail::Row<PAIRING_NODE_BYTES> {
 public:
     constexpr Node() noexcept = default;
-    // With a value that its field cannot hold: number 0 and capacity 65,535, a faulty row in every table.
-    constexpr Node(int number, int horizontal, int vertical, int capacity) noexcept {
-        if (!detail::put_node(bytes_, number, horizontal, vertical, capacity)) detail::put(bytes_ + 6, 2, 0xffff);
+    // With a value that its field cannot hold: number 0, capacity and sort 255, a faulty row in every table.
+    constexpr Node(int number, int horizontal, int vertical, int capacity, Sort sort = Sort::on_curve) noexcept {
+        if (!detail::put_node(bytes_, number, horizontal, vertical, capacity, sort)) detail::put(bytes_ + 6, 2, 0xffff);
     }
     constexpr std::uint16_t number() const noexcept { return Row::number(0); }
     constexpr std::int16_t horizontal() const noexcept { return position(2); }
     constexpr std::int16_t vertical() const noexcept { return position(4); }
-    constexpr std::uint16_t capacity() const noexcept { return Row::number(6); }
+    constexpr std::uint16_t capacity() const noexcept { return bytes_[6]; }
+    constexpr Sort sort() const noexcept { return static_cast<Sort>(bytes_[7]); }
     constexpr bool used() const noexcept { return number() != 0; }
 };
 
@@ -132,13 +139,14 @@ public:
 class Edit : public detail::Row<PAIRING_EDIT_BYTES> {
 public:
     // With a value that its field cannot hold: number 0, which is refused.
-    constexpr Edit(Kind kind, Master master, int number, int horizontal, int vertical, int capacity) noexcept {
+    constexpr Edit(Kind kind, Master master, int number, int horizontal, int vertical, int capacity,
+                   Sort sort = Sort::on_curve) noexcept {
         bytes_[0] = static_cast<std::uint8_t>(kind);
         bytes_[1] = static_cast<std::uint8_t>(master);
-        detail::put_node(bytes_ + 2, number, horizontal, vertical, capacity);
+        detail::put_node(bytes_ + 2, number, horizontal, vertical, capacity, sort);
     }
     static constexpr Edit arrival(Master master, const Node &node) noexcept {
-        return {Kind::arrival, master, node.number(), node.horizontal(), node.vertical(), node.capacity()};
+        return {Kind::arrival, master, node.number(), node.horizontal(), node.vertical(), node.capacity(), node.sort()};
     }
     static constexpr Edit departure(Master master, int number) noexcept {
         return {Kind::departure, master, number, 0, 0, 0};
@@ -146,8 +154,10 @@ public:
     static constexpr Edit move(Master master, int number, int horizontal, int vertical) noexcept {
         return {Kind::move, master, number, horizontal, vertical, 0};
     }
-    static constexpr Edit new_capacity(Master master, int number, int capacity) noexcept {
-        return {Kind::capacity, master, number, 0, 0, capacity};
+    // Sets both, so the sort has to be said: a default would turn a handle into an on-curve node. Drawing has functions
+    // that set one and keep the other.
+    static constexpr Edit new_capacity(Master master, int number, int capacity, Sort sort) noexcept {
+        return {Kind::capacity, master, number, 0, 0, capacity, sort};
     }
     constexpr operator ConstBytes() const noexcept { return bytes(); }
 };

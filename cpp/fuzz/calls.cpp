@@ -20,6 +20,7 @@ using pairing::Edit;
 using pairing::Kind;
 using pairing::Master;
 using pairing::Node;
+using pairing::Sort;
 
 // The input, a byte at a time; zeros behind its end.
 class Input {
@@ -175,6 +176,11 @@ private:
         const int byte = from.byte();
         return byte < 192 ? 1 + byte % 5 : byte - 128;
     }
+    // Mostly one of the two; a bit beyond now and then.
+    static Sort sort(Input &from) {
+        const int byte = from.byte();
+        return static_cast<Sort>(byte < 240 ? byte % 2 : byte - 238);
+    }
     // Mostly one that the master has.
     std::uint16_t some_number(std::size_t master) {
         const std::size_t rows = used(master), row = input_.below(rows + rows / 4 + 1);
@@ -188,7 +194,8 @@ private:
             const int number = static_cast<int>((2 * filled_++ + 1) * 25717 % 65536);
             const int x = within(position(from), PAIRING_POSITION_MIN, PAIRING_POSITION_MAX);
             const int y = within(position(from), PAIRING_POSITION_MIN, PAIRING_POSITION_MAX);
-            const Node node(number, x, y, within(capacity(from), PAIRING_CAPACITY_MIN, PAIRING_CAPACITY_MAX));
+            const int units = within(capacity(from), PAIRING_CAPACITY_MIN, PAIRING_CAPACITY_MAX);
+            const Node node(number, x, y, units, from.below(2) == 1 ? Sort::off_curve : Sort::on_curve);
             std::copy(node.bytes().begin(), node.bytes().end(), now_.buffer(master) + PAIRING_NODE_BYTES * row);
         }
     }
@@ -198,7 +205,7 @@ private:
         if (byte < 192 || full_) {
             fill(byte % 2, byte % 16, input_);
         } else {
-            std::uint8_t many[3 * PAIRING_TABLE_ROWS];
+            std::uint8_t many[4 * PAIRING_TABLE_ROWS];
             const unsigned factor = input_.byte(), more = input_.byte();
             for (unsigned k = 0; k < sizeof many; ++k)
                 many[k] = static_cast<std::uint8_t>((k * factor + more) * k >> 3);
@@ -219,7 +226,8 @@ private:
         const bool placed = kind == Kind::arrival || kind == Kind::move;
         const int x = placed ? position(input_) : 0, y = placed ? position(input_) : 0;
         const bool sized = kind == Kind::arrival || kind == Kind::capacity;
-        return {kind, static_cast<Master>(master), number, x, y, sized ? capacity(input_) : 0};
+        const int units = sized ? capacity(input_) : 0;
+        return {kind, static_cast<Master>(master), number, x, y, units, sized ? sort(input_) : Sort::on_curve};
     }
     void edit(const Edit &edit) {
         std::copy(edit.bytes().begin(), edit.bytes().end(), now_.buffer(3));

@@ -6,28 +6,11 @@
 using namespace pairing;
 using harness::is;
 using harness::is_done;
+using harness::links_of;
 using harness::node;
-
-namespace {
-
-struct Random {
-    std::uint32_t state;
-    int below(int end) {
-        state = state * 1664525u + 1013904223u;
-        return static_cast<int>((state >> 8) % static_cast<std::uint32_t>(end));
-    }
-};
-
-std::vector<Node> some_nodes(Random &random, int count) {
-    std::vector<Node> nodes;
-    for (int k = 1; k <= count; ++k)
-        nodes.push_back(node(3 * k, random.below(200) - 100, random.below(200) - 100, 1 + random.below(5)));
-    return nodes;
-}
-
-std::vector<Link> links_of(const Drawing &drawing) { return {drawing.links().begin(), drawing.links().end()}; }
-
-}  // namespace
+using harness::Random;
+using harness::some_nodes;
+using harness::Sorts;
 
 TEST(empty_drawing) {
     Drawing drawing;
@@ -74,20 +57,23 @@ TEST(steps_give_what_pair_gives) {
 }
 
 // Rows ahead of rows kept are as before, the row there is not, and the list is that of a fresh drawing.
-TEST(edits_give_what_a_fresh_drawing_has) {
+static void edits_beside_fresh_drawings(Sorts sorts) {
     Random random{4};
     Drawing drawing;
-    CHECK(drawing.load(some_nodes(random, 30), some_nodes(random, 30)).done());
+    const bool loaded = drawing.load(some_nodes(random, 30, sorts), some_nodes(random, 30, sorts)).done();
+    CHECK(loaded);
     std::size_t kept_some = 0;
-    for (int count = 0; count < 200; ++count) {
+    for (int count = 0; loaded && count < 200; ++count) {
         const auto before = links_of(drawing);
         const Master master = random.below(2) ? Master::b : Master::a;
         const View<const Node> nodes = master == Master::a ? drawing.light() : drawing.bold();
         const int place = random.below(static_cast<int>(nodes.size()));
         const int number = nodes[static_cast<std::size_t>(place)].number();
         const int x = random.below(200) - 100, y = random.below(200) - 100, capacity = 1 + random.below(6);
-        const Edit edits[] = {Edit::arrival(master, node(1000 + count, x, y, 2)), Edit::departure(master, number),
-                              Edit::move(master, number, x, y), Edit::new_capacity(master, number, capacity)};
+        const bool handle = sorts == Sorts::with_handles && random.below(2) == 1;
+        const Sort sort = handle ? Sort::off_curve : Sort::on_curve;
+        const Edit edits[] = {Edit::arrival(master, node(1000 + count, x, y, 2, sort)), Edit::departure(master, number),
+                              Edit::move(master, number, x, y), Edit::new_capacity(master, number, capacity, sort)};
         const Outcome outcome = drawing.edit(edits[random.below(4)]);
         CHECK(outcome.done());
         const auto after = links_of(drawing);
@@ -102,6 +88,10 @@ TEST(edits_give_what_a_fresh_drawing_has) {
     }
     CHECK(kept_some > 50);
 }
+
+TEST(edits_give_what_a_fresh_drawing_has) { edits_beside_fresh_drawings(Sorts::on_curve); }
+
+TEST(edits_of_both_sorts_give_what_a_fresh_drawing_has) { edits_beside_fresh_drawings(Sorts::with_handles); }
 
 TEST(spare_and_bands_add_up) {
     Random random{5};
@@ -134,7 +124,8 @@ TEST(no_call_allocates) {
     Counts counts;
     const std::size_t before = harness::allocations();
     const bool done = drawing.load(light, bold) && drawing.pair() && drawing.step() && drawing.bands(counts) &&
-                      drawing.edit(Edit::departure(Master::a, 3)) && drawing.spare(Master::b, 3);
+                      drawing.edit(Edit::departure(Master::a, 3)) && drawing.spare(Master::b, 3) &&
+                      drawing.set_capacity(Master::b, 3, 9);
     const bool refused = !drawing.load(light, {nullptr, 1});
     CHECK(harness::allocations() == before);
     CHECK(done && refused && before > 0);

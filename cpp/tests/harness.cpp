@@ -39,7 +39,26 @@ void check(bool holds, const char *what, const char *file, int line) {
     std::printf("%s:%d: does not hold: %s\n", file, line, what);
 }
 
-Node node(int number, int horizontal, int vertical, int capacity) { return {number, horizontal, vertical, capacity}; }
+Node node(int number, int horizontal, int vertical, int capacity, Sort sort) {
+    return {number, horizontal, vertical, capacity, sort};
+}
+
+int Random::below(int end) {
+    state = state * 1664525u + 1013904223u;
+    return static_cast<int>((state >> 8) % static_cast<std::uint32_t>(end));
+}
+
+std::vector<Node> some_nodes(Random &random, int count, Sorts sorts) {
+    std::vector<Node> nodes;
+    for (int k = 1; k <= count; ++k) {
+        const int x = random.below(200) - 100, y = random.below(200) - 100, capacity = 1 + random.below(5);
+        const bool handle = sorts == Sorts::with_handles && random.below(2) == 1;
+        nodes.push_back(node(3 * k, x, y, capacity, handle ? Sort::off_curve : Sort::on_curve));
+    }
+    return nodes;
+}
+
+std::vector<Link> links_of(const Drawing &drawing) { return {drawing.links().begin(), drawing.links().end()}; }
 
 World e7() {
     World world;

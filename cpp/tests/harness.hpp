@@ -40,10 +40,20 @@ struct World {
     pairing::Counts counts;
 };
 World e7();
-pairing::Node node(int number, int horizontal, int vertical, int capacity = 1);
+pairing::Node node(int number, int horizontal, int vertical, int capacity = 1,
+                   pairing::Sort sort = pairing::Sort::on_curve);
 Memory copy(pairing::ConstBytes bytes);
 bool is(const pairing::Outcome &outcome, pairing::Refusal refusal, std::uint32_t value);
 bool is_done(const pairing::Outcome &outcome, std::uint32_t value);
+
+struct Random {
+    std::uint32_t state;
+    int below(int end);
+};
+// Nodes in a small field, numbered in threes; with handles about half of them are off-curve.
+enum class Sorts { on_curve, with_handles };
+std::vector<pairing::Node> some_nodes(Random &random, int count, Sorts sorts = Sorts::on_curve);
+std::vector<pairing::Link> links_of(const pairing::Drawing &drawing);
 
 // A call with its buffers in order, so that a test can go over all of them: good bytes for each, its stated size, and
 // whether it is written.

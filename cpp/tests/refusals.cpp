@@ -3,6 +3,7 @@
 
 #include <algorithm>
 #include <functional>
+#include <utility>
 
 using namespace pairing;
 using harness::Call;
@@ -63,12 +64,15 @@ TEST(refused_length) {
 
 TEST(refused_tables) {
     const Refusal refusals[] = {Refusal::table_a, Refusal::table_b};
-    for (const std::size_t table : {0u, 1u})
-        for (const std::size_t row : {0u, 1u, 2u, 511u})
-            every_call([&](auto &own) { own[table][8 * row + 6] = 65; },
-                       [&](const Call &, const Outcome &outcome) {
-                           CHECK(is(outcome, refusals[table], static_cast<std::uint32_t>(row)));
-                       });
+    // A capacity above the greatest; sorts above the greatest.
+    const std::pair<std::size_t, std::uint8_t> faults[] = {{6, 65}, {7, 2}, {7, 255}};
+    for (const auto &[place, value] : faults)
+        for (const std::size_t table : {0u, 1u})
+            for (const std::size_t row : {0u, 1u, 2u, 511u})
+                every_call([&, at = place, fault = value](auto &own) { own[table][8 * row + at] = fault; },
+                           [&](const Call &, const Outcome &outcome) {
+                               CHECK(is(outcome, refusals[table], static_cast<std::uint32_t>(row)));
+                           });
 }
 
 TEST(refused_list) {
@@ -114,14 +118,22 @@ TEST(refused_field) {
     refused({Kind::departure, Master::a, 1, 0, 0, 1}, Refusal::field);
     refused({Kind::move, Master::b, 1, 0, 0, 1}, Refusal::field);
     refused({Kind::capacity, Master::b, 1, 0, 1, 1}, Refusal::field);
+    // A sort is part of the field that must be zero.
+    refused({Kind::departure, Master::a, 1, 0, 0, 0, Sort::off_curve}, Refusal::field);
+    refused({Kind::move, Master::b, 1, 0, 0, 0, Sort::off_curve}, Refusal::field);
     for (const int position : {16385, -16385, 65536, -65536}) {
         refused(Edit::move(Master::a, 1, position, 0), Refusal::field);
         refused(Edit::move(Master::a, 1, 0, position), Refusal::field);
         refused(Edit::arrival(Master::a, node(3, position, 0)), Refusal::field);
     }
-    for (const int capacity : {0, 65, -1, 65537}) {
-        refused(Edit::new_capacity(Master::b, 1, capacity), Refusal::field);
-        refused(Edit::arrival(Master::b, node(3, 0, 0, capacity)), Refusal::field);
+    for (const Sort sort : {Sort::on_curve, Sort::off_curve})
+        for (const int capacity : {0, 65, 255, 256, 257, -1, -255, 65537}) {
+            refused(Edit::new_capacity(Master::b, 1, capacity, sort), Refusal::field);
+            refused(Edit::arrival(Master::b, node(3, 0, 0, capacity, sort)), Refusal::field);
+        }
+    for (const int sort : {2, 3, 128, 255}) {
+        refused(Edit::new_capacity(Master::b, 1, 1, static_cast<Sort>(sort)), Refusal::field);
+        refused(Edit::arrival(Master::b, node(3, 0, 0, 1, static_cast<Sort>(sort))), Refusal::field);
     }
 }
 
@@ -131,7 +143,7 @@ TEST(refused_number) {
     refused(Edit::arrival(Master::a, node(2, 0, 0)), Refusal::number);
     refused(Edit::departure(Master::a, 3), Refusal::number);
     refused(Edit::move(Master::b, 65535, 0, 0), Refusal::number);
-    refused(Edit::new_capacity(Master::b, 3, 1), Refusal::number);
+    refused(Edit::new_capacity(Master::b, 3, 1, Sort::on_curve), Refusal::number);
 }
 
 TEST(refused_full) {
@@ -146,7 +158,8 @@ TEST(refused_full) {
 
 TEST(values_that_do_not_fit_are_refused_in_tables) {
     for (const Node &wrong : {Node(65537, 0, 0, 1), Node(1, 65536, 0, 1), Node(1, 0, -65536, 1), Node(1, 0, 0, 65537),
-                              Node(65536, 0, 0, 0)}) {
+                              Node(65536, 0, 0, 0), Node(1, 0, 0, 257), Node(1, 0, 0, 1, static_cast<Sort>(2)),
+                              Node(1, 0, 0, 1, static_cast<Sort>(255)), Node(0, 0, 0, 0, Sort::off_curve)}) {
         World world;
         world.a[0] = wrong;
         CHECK(is(pair(world.a, world.b, world.list), Refusal::table_a, 0));

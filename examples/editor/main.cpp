@@ -7,6 +7,7 @@ using pairing::Edit;
 using pairing::Master;
 using pairing::Node;
 using pairing::Outcome;
+using pairing::Sort;
 
 // The drawing holds its buffers, 18 KB: in the editor it is a member of the document, here it is static.
 static pairing::Drawing drawing;
@@ -40,7 +41,7 @@ int main() {
     std::printf("pairing %s: %u links\n", PAIRING_VERSION, loaded.value());
     draw(0);
 
-    change("light 3 gets capacity 1", Edit::new_capacity(Master::light, 3, 1));
+    change("light 3 gets capacity 1", Edit::new_capacity(Master::light, 3, 1, Sort::on_curve));
     change("light 4 arrives", Edit::arrival(Master::light, {4, 100, 700, 1}));
     change("light 9 moves", Edit::move(Master::light, 9, 0, 0));
 

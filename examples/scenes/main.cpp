@@ -1,8 +1,9 @@
-// Prints the scenes of docs/pictures: a drawing, an edit of it, and the engine's links before and after. tools/pictures
-// draws them.
+// Prints the scenes of docs/pictures: a drawing, an edit of it, and the engine's links before and after; or two drawings
+// of the same places. tools/pictures draws them.
 #include <pairing.hpp>
 
 #include <cstdio>
+#include <vector>
 
 using pairing::Drawing;
 using pairing::Edit;
@@ -10,16 +11,23 @@ using pairing::Link;
 using pairing::Master;
 using pairing::Node;
 using pairing::Outcome;
+using pairing::Sort;
 using pairing::View;
 
-static void print(const Drawing &drawing) {
-    for (const Node &node : drawing.light())
-        std::printf("light %u %d %d %u\n", node.number(), node.horizontal(), node.vertical(), node.capacity());
-    for (const Node &node : drawing.bold())
-        std::printf("bold %u %d %d %u\n", node.number(), node.horizontal(), node.vertical(), node.capacity());
-    for (const Link &link : drawing.links())
+static void print(const char *master, View<const Node> nodes) {
+    for (const Node &node : nodes)
+        std::printf("%s %u %d %d %u %u\n", master, node.number(), node.horizontal(), node.vertical(), node.capacity(),
+                    static_cast<unsigned>(node.sort()));
+}
+
+static void print(View<const Node> light, View<const Node> bold, View<const Link> links) {
+    print("light", light);
+    print("bold", bold);
+    for (const Link &link : links)
         std::printf("link %u %u %u %u\n", link.a(), link.b(), link.distance(), link.amount());
 }
+
+static void print(const Drawing &drawing) { print(drawing.light(), drawing.bold(), drawing.links()); }
 
 // A scene's name, how it is drawn, and what its edit is. Says whether the engine did all of it.
 static bool scene(const char *name, const char *style, const char *what, View<const Node> light, View<const Node> bold,
@@ -37,7 +45,8 @@ static bool scene(const char *name, const char *style, const char *what, View<co
 static bool ties() {
     const Node light[] = {{1, 0, 0, 1}, {2, 200, 0, 1}, {3, 420, 0, 2}};
     const Node bold[] = {{7, 100, 0, 1}, {8, 320, 0, 4}};
-    return scene("ties", "open", "Bold 7 gets capacity 2", light, bold, Edit::new_capacity(Master::bold, 7, 2));
+    const Edit edit = Edit::new_capacity(Master::bold, 7, 2, Sort::on_curve);
+    return scene("ties", "open", "Bold 7 gets capacity 2", light, bold, edit);
 }
 
 static bool chain() {
@@ -55,4 +64,30 @@ static bool letter() {
     return scene("letter", "contour", "Bold 4 departs", light, bold, Edit::departure(Master::bold, 4));
 }
 
-int main() { return ties() && chain() && letter() ? 0 : 1; }
+static std::vector<Node> all_on_curve(View<const Node> nodes) {
+    std::vector<Node> made;
+    for (const Node &node : nodes)
+        made.emplace_back(node.number(), node.horizontal(), node.vertical(), node.capacity());
+    return made;
+}
+
+// The outer contour of a D. The nodes are printed with their sorts both times, so that the picture has the handles where
+// the links of all nodes as on-curve ones go astray.
+static bool handles() {
+    constexpr Sort off = Sort::off_curve;
+    const Node light[] = {{1, 0, 0, 1},          {2, 0, 400, 1},        {3, 100, 400, 1},
+                          {4, 210, 400, 1, off}, {5, 300, 310, 1, off}, {6, 300, 200, 1},
+                          {7, 300, 90, 1, off},  {8, 210, 0, 1, off},   {9, 100, 0, 1}};
+    const Node bold[] = {{1, -60, -40, 1},      {2, -60, 440, 1},      {3, 160, 440, 1},
+                         {4, 300, 440, 1, off}, {5, 420, 340, 1, off}, {6, 420, 200, 1},
+                         {7, 420, 60, 1, off},  {8, 300, -40, 1, off}, {9, 160, -40, 1}};
+    Drawing drawing, flat;
+    if (!drawing.load(light, bold) || !flat.load(all_on_curve(light), all_on_curve(bold))) return false;
+    std::printf("scene handles handles Handles pair with handles\npanel with sorts\n");
+    print(light, bold, drawing.links());
+    std::printf("panel all on-curve\n");
+    print(light, bold, flat.links());
+    return true;
+}
+
+int main() { return ties() && chain() && letter() && handles() ? 0 : 1; }
