@@ -51,7 +51,8 @@ fn row_in(number: u32, second: bool, s: Spans, ns: &[u32]) -> usize
 
 // The row of the edited node, which is of either sort; ROWS where it is not there.
 fn edited(number: u32, second: bool, s: Sorts, ns: &[u32]) -> usize
-    requires { ⌜ (s .on .a .to ≤ setRows) × (s .on .b .to ≤ setRows) × (s .off .a .to ≤ setRows) × (s .off .b .to ≤ setRows) × (length (now ns) ≡ setRows) ⌝ }
+    requires { ⌜ (s .on .a .to ≤ setRows) × (s .on .b .to ≤ setRows)
+        × (s .off .a .to ≤ setRows) × (s .off .b .to ≤ setRows) × (length (now ns) ≡ setRows) ⌝ }
     ensures { λ k. ⌜ k ≤ setRows ⌝ }
 {
     let k = row_in(number, second, s.on, ns);

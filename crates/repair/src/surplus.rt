@@ -124,7 +124,8 @@ fn replace(
     boxes: &[[i16; 4]],
     surplus: &mut [[u64; 2]],
 ) -> Run
-    requires { ⌜ Fair run × Each (now ns) (now at) s × (length (now blocks) ≡ setBlocks) × Boxed (now boxes) × (length (now surplus) ≡ surplusRows) ⌝ }
+    requires { ⌜ Fair run × Each (now ns) (now at) s × (length (now blocks) ≡ setBlocks)
+        × Boxed (now boxes) × (length (now surplus) ≡ surplusRows) ⌝ }
     ensures { λ r. ⌜ Fair r ⌝ }
 {
     let e = run.first;

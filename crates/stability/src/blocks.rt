@@ -132,7 +132,8 @@ pub fn is_past(p: [i16; 2], n: u32, l: u64, b: Block) -> bool
 // Two blocks are apart: each pair of their rows is at or past the limit of its row of b, or each is at or past that of its row of c.
 pub fn apart(b: Block, c: Block) -> bool
     requires { ⌜ Inner (b .bounds) × Inner (c .bounds) ⌝ }
-    ensures { λ r. ⌜ (r ≡ true → (x y u v : ℤ) (n l m k : ℕ) → Holds b x y n l → Holds c u v m k → ¬ Blocks (squaredDistance x y u v) n l m k) ⌝ }
+    ensures { λ r. ⌜ (r ≡ true → (x y u v : ℤ) (n l m k : ℕ) → Holds b x y n l → Holds c u v m k
+        → ¬ Blocks (squaredDistance x y u v) n l m k) ⌝ }
 {
     let p = b.bounds;
     let q = c.bounds;

@@ -35,7 +35,8 @@ pub fn fill(
     cf: &mut [u32],
     ch: &mut [u32],
 )
-    requires { ⌜ (r .from < r .to) × (r .to ≤ setRows) × (length (now ns) ≡ setRows) × (length (now at) ≡ setRows) × (length (now limits) ≡ setRows) ⌝ }
+    requires { ⌜ (r .from < r .to) × (r .to ≤ setRows) × (length (now ns) ≡ setRows)
+        × (length (now at) ≡ setRows) × (length (now limits) ≡ setRows) ⌝ }
     requires { ⌜ Sized (now cn) (now cx) (now cy) (now cf) (now ch) ⌝ }
     ensures { λ _. ⌜ Sized (now (cn .exit)) (now (cx .exit)) (now (cy .exit)) (now (cf .exit)) (now (ch .exit)) ⌝ }
     ensures { λ _. ⌜ Lanes (now (ns .entry)) (now (at .entry)) (now (limits .entry)) r

@@ -18,7 +18,8 @@ ghost use Rattle.stability.specs.Later.{Passed, StillStable};
 // Some pair of a row of p that has a later limit and a row of q blocks. The other rows of p take no pair, so that blocks of them are skipped.
 fn pass(ns: &[u32], at: &[[i16; 2]], old: &[u64], new: &[u64], p: Range, q: Range) -> bool
     requires { ⌜ Ranged (now ns) (now at) p × Ranged (now ns) (now at) q × (length (now old) ≡ setRows) × (length (now new) ≡ setRows) ⌝ }
-    ensures { λ r. ⌜ (r ≡ false → (i j : ℕ) → RowOf p i → RowOf q j → Passed (now (ns .entry)) (now (at .entry)) (now (old .entry)) (now (new .entry)) i j) ⌝ }
+    ensures { λ r. ⌜ (r ≡ false → (i j : ℕ) → RowOf p i → RowOf q j
+        → Passed (now (ns .entry)) (now (at .entry)) (now (old .entry)) (now (new .entry)) i j) ⌝ }
 {
     let mut e = [0u64; sizes::ROWS];
     later::only_later(p, old, new, &mut e);

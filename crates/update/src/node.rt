@@ -46,7 +46,8 @@ fn update_sort(
     places: &mut [[u16; 2]],
     n: usize,
 ) -> usize
-    requires { ⌜ Outdated (now t) z sort r (now ns) (now at) (now cs) (now limits) × (side < 2) × (length (now places) ≡ linkRows) × (n ≤ linkRows) ⌝ }
+    requires { ⌜ Outdated (now t) z sort r (now ns) (now at) (now cs) (now limits)
+        × (side < 2) × (length (now places) ≡ linkRows) × (n ≤ linkRows) ⌝ }
     ensures { λ e. ⌜ Current (now (t .entry)) sort r (now (ns .entry)) (now (at .entry)) (now (cs .entry)) (now (limits .entry))
         e (now (ns .exit)) (now (at .exit)) (now (cs .exit)) (now (limits .exit))
         × (length (now (places .exit)) ≡ linkRows) ⌝ }
@@ -83,7 +84,8 @@ pub fn update_node(
     places: &mut [[u16; 2]],
     n: usize,
 ) -> Rows
-    requires { ⌜ OutdatedBoth (now t) z m (now ns) (now at) (now cs) (now limits) × (side < 2) × (length (now places) ≡ linkRows) × (n ≤ linkRows) ⌝ }
+    requires { ⌜ OutdatedBoth (now t) z m (now ns) (now at) (now cs) (now limits)
+        × (side < 2) × (length (now places) ≡ linkRows) × (n ≤ linkRows) ⌝ }
     ensures { λ r. ⌜ CurrentBoth (now (t .entry)) m (now (ns .entry)) (now (at .entry)) (now (cs .entry)) (now (limits .entry))
         r (now (ns .exit)) (now (at .exit)) (now (cs .exit)) (now (limits .exit))
         × (length (now (places .exit)) ≡ linkRows) ⌝ }

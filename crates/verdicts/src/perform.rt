@@ -45,7 +45,8 @@ fn judge_place(change: Change, nodes: usize, row: usize) -> Answer
 // A change of the table of its master.
 fn change_table(change: Change, t: &mut [u8], edit: &[u8]) -> Answer
     requires { ⌜ (length (now t) ≡ tableSize) × (length (now edit) ≡ editSize) × (change ≡ changeOf (kindOf (now edit))) ⌝ }
-    ensures { λ r. ⌜ (r ≡ nodeAnswer (now (edit .entry)) (nodesIn (now (t .entry)))) × Applied (now (edit .entry)) (now (t .entry)) (now (t .exit)) r ⌝ }
+    ensures { λ r. ⌜ (r ≡ nodeAnswer (now (edit .entry)) (nodesIn (now (t .entry))))
+        × Applied (now (edit .entry)) (now (t .entry)) (now (t .exit)) r ⌝ }
 {
     let number = number_of(edit);
     if number == 0 {
@@ -68,7 +69,8 @@ fn change_table(change: Change, t: &mut [u8], edit: &[u8]) -> Answer
 
 // A change in the master that the edit names: the other table stays.
 fn change_master(change: Change, a: &mut [u8], b: &mut [u8], edit: &[u8]) -> Answer
-    requires { ⌜ (length (now a) ≡ tableSize) × (length (now b) ≡ tableSize) × (length (now edit) ≡ editSize) × (change ≡ changeOf (kindOf (now edit))) ⌝ }
+    requires { ⌜ (length (now a) ≡ tableSize) × (length (now b) ≡ tableSize) × (length (now edit) ≡ editSize)
+        × (change ≡ changeOf (kindOf (now edit))) ⌝ }
     ensures { λ r. ⌜ (r ≡ masterAnswer (now (edit .entry)) (nodesIn (now (a .entry))) (nodesIn (now (b .entry))))
         × Performed (now (edit .entry)) (now (a .entry)) (now (b .entry)) (now (a .exit)) (now (b .exit)) r ⌝ }
 {

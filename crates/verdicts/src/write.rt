@@ -15,7 +15,8 @@ use tables::sizes::LINK;
 // The first n links into a list, whose rows ahead of row `from` stay.
 pub fn write_rows(list: &mut [u8], links: &[[u32; 4]], from: usize, n: usize)
     requires { ⌜ (length (now list) ≡ listSize) × (from ≤ n) × Held (now links) n ⌝ }
-    ensures { λ _. ⌜ now (list .exit) ≡ take (linkSize * from) (now (list .entry)) ++ drop (linkSize * from) (listBytes (linksIn (now (links .entry)) n)) ⌝ }
+    ensures { λ _. ⌜ now (list .exit) ≡ take (linkSize * from) (now (list .entry))
+        ++ drop (linkSize * from) (listBytes (linksIn (now (links .entry)) n)) ⌝ }
 {
     let at = LINK * from;
     write_links(&mut list[at..], links, from, n);
