@@ -45,6 +45,7 @@ module _ {X : Type 0} where
     pub order : Reordered K (x ∷ rest)
 
   front : {x : X} (K : List X) → Memᴰ x K → Front x K
+  front [] i = elim i [ ]
   front (k ∷ K) (Memᴰ.head e) = record { rest = K; order = subst (λ (y : X). Reordered (k ∷ K) (y ∷ K)) (sym e) same }
   front {x} (k ∷ K) (Memᴰ.tail i) = let f = front K i in record { rest = k ∷ f.rest; order = then (skip k f.order) (swap k x) }
 

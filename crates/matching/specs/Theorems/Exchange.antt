@@ -1,7 +1,7 @@
 -- The masters exchanged: the same links with their numbers exchanged; only rows of equal distance may stand in another order. Every node has as much to spare.
 use Rattle.std.specs.Prelude.{ℕ, ◌-◌, ◌≤◌, ◌≡◌, refl, Bool, true, false, cond, ◌&&◌, eqb, ltb}
 use Rattle.std.proofs.Common.{sym, ◌∙◌, ap, ap₂, arith, eq-eqb, le-ltb}
-use Rattle.std.proofs.Math.Bool.{and_false, or-false}
+use Rattle.std.proofs.Math.Bool.{and-false, or-false}
 use mathlib.Core.List.Memᴰ
 use mathlib.Core.List.{List, [], ◌∷◌, map, Memᴰ}
 use Rattle.matching.specs.Definitions.Lists.{All, Reordered}
@@ -28,7 +28,7 @@ triple d a b = record { distance = d; a = a; b = b }
 
 flip_order : (d e n i j : ℕ) → earlier (triple d n i) (triple e n j) ≡ earlier (triple d i n) (triple e j n)
 unfolding earlier
-flip_order d e n i j = rw (le-ltb n n (omega arith), eq-eqb n n refl, and_false (eqb i j), or-false (ltb i j))
+flip_order d e n i j = rw (le-ltb n n (omega arith), eq-eqb n n refl, and-false (eqb i j), or-false (ltb i j))
 
 row_order : (v w u : Node) → earlier (pair v w) (pair v u) ≡ earlier (pair w v) (pair u v)
 unfolding pair
