@@ -1,5 +1,7 @@
 // Bounding boxes: how near a position can be to any position in a box, told without a look at the rows.
 // A box is a row: how far it goes west, east, south and north.
+#![tactic(auto)]
+
 ghost use Rattle.std.specs.Prelude.{ℕ, ◌<◌, ◌≤◌, length};
 ghost use Rattle.matching.specs.Definitions.Columns.{Inside};
 ghost use Rattle.matching.specs.Definitions.Rows.{across, upward, x_at, y_at};

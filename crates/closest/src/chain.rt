@@ -13,7 +13,7 @@ use matching::sizes::{BLOCK, HALF};
 use matching::{Range, Spans};
 
 // A pair of rows that is taken: A's, B's, and how far they are apart.
-#[derive(Drop)]
+#[derive(Clone, Copy)]
 pub struct Pick {
     pub a: usize,
     pub b: usize,
@@ -21,7 +21,7 @@ pub struct Pick {
 }
 
 // What to do next: stop, push a row, or take a pair.
-#[derive(Drop)]
+#[derive(Clone, Copy)]
 pub enum Move {
     Stop,
     Push(usize),
@@ -29,7 +29,7 @@ pub enum Move {
 }
 
 // How many rows stand on the chain, how many links are written, and whether there may be more.
-#[derive(Drop)]
+#[derive(Clone, Copy)]
 pub struct State {
     pub depth: usize,
     pub links: usize,

@@ -1,4 +1,6 @@
 // The join of two masters, by a chain of nearest neighbours.
+#![tactic(auto)]
+
 mod blocks;
 mod chain;
 mod live;

@@ -10,7 +10,7 @@ use crate::live;
 use matching::{Range, Spans, sizes};
 
 // A place, and distance and number of its row as one key: the lesser key comes first.
-#[derive(Drop)]
+#[derive(Clone, Copy)]
 pub struct Near {
     pub key: u64,
     pub at: usize,

@@ -1,4 +1,6 @@
 // Tables into the set of rows: each decoded, put in order, indexed by number and judged once.
+#![tactic(auto)]
+
 pub mod decode;
 pub mod fault;
 pub mod index;

@@ -12,7 +12,7 @@ use matching::sizes::BLOCK;
 use tables::find::count;
 
 // The rows of a master by sort.
-#[derive(Drop)]
+#[derive(Clone, Copy)]
 pub struct Rows {
     pub on: Range,
     pub off: Range,

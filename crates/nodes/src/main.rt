@@ -1,4 +1,6 @@
 // Lists the nodes of a table, and the one with a number. Standard input has the number, two bytes, and then the table.
+#![tactic(auto)]
+
 mod listing;
 
 use libc::{STDIN_FILENO, STDOUT_FILENO};

@@ -1,4 +1,6 @@
 // A master's rows put into an order in which rows that follow each other are close together in the plane.
+#![tactic(auto)]
+
 mod order;
 mod settle;
 mod sizes;

@@ -1,4 +1,6 @@
 // Loads a drawing, plays edits and makes the replay program's text, on lent buffers.
+#![tactic(auto)]
+
 ghost use Rattle.std.specs.Prelude.{◌≤◌, ◌≡◌, length};
 ghost use Rattle.tables.specs.Definitions.Sizes.{list_size};
 ghost use Rattle.player.specs.Definitions.Text.{Written};

@@ -1,6 +1,8 @@
 // A reader over one lent table, without a copy of it: its nodes in row order, and a node by its number.
 // A table of a wrong length or with a faulty row gives none. The functions over `Reader` are thin, for their proofs
 // are done by hand: the work is in the functions on the slice and a row, which other callers may use too.
+#![tactic(auto)]
+
 ghost use Rattle.std.specs.Prelude.{◌≡◌};
 ghost use Rattle.reader.specs.Definitions.{nth, numbered, readable, start_row, node_at, row_after, node_of, found_of};
 
@@ -10,7 +12,7 @@ use tables::fields::position_at;
 use tables::find::{capacity_in, row_of, sort_in};
 use tables::sizes::{NODE, NODE_X, NODE_Y, NODES, TABLE};
 
-#[derive(Drop)]
+#[derive(Clone, Copy)]
 pub struct Node {
     pub number: u32,
     pub x: i16,
@@ -19,7 +21,7 @@ pub struct Node {
     pub sort: u32,
 }
 
-#[derive(Drop)]
+#[derive(Clone, Copy)]
 pub enum Found {
     Nothing,
     One(Node),
@@ -95,7 +97,7 @@ pub fn node_of(t: &[u8], k: usize, n: u32) -> Found
     node_at(t, row)
 }
 
-#[derive(Drop)]
+#[derive(Clone, Copy)]
 pub struct Reader<'a> {
     table: &'a [u8],
     row: usize,

@@ -1,4 +1,6 @@
 // The links after an edit, made from those before it. Nothing is promised of them: who uses them checks them.
+#![tactic(auto)]
+
 mod blocks;
 mod cost;
 mod left;

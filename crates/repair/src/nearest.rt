@@ -10,21 +10,21 @@ use matching::sizes::{BLOCK, HALF, ROWS};
 use matching::{Range, Sorts, Spans};
 
 // A row, and its distance and number as one key: the lesser key comes first.
-#[derive(Drop)]
+#[derive(Clone, Copy)]
 pub struct Near {
     pub key: u64,
     pub row: usize,
 }
 
 // The nearest row and the next nearest; without such a row the key is none.
-#[derive(Drop)]
+#[derive(Clone, Copy)]
 pub struct Two {
     pub first: Near,
     pub second: Near,
 }
 
 // The two nearest, and how many blocks were looked through.
-#[derive(Drop)]
+#[derive(Clone, Copy)]
 pub struct Found {
     pub two: Two,
     pub scans: usize,

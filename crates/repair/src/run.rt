@@ -11,7 +11,7 @@ use matching::Sorts;
 use matching::sizes::{LINKS, ROWS};
 
 // The next old link, how many links are written, how many rows have a surplus, the place of the earliest candidate, and what the run has cost.
-#[derive(Drop)]
+#[derive(Clone, Copy)]
 pub struct Run {
     pub old: usize,
     pub links: usize,

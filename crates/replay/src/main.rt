@@ -1,4 +1,6 @@
 // Replays the edits on standard input: what document 01, E11, prints for them.
+#![tactic(auto)]
+
 use libc::{STDIN_FILENO, STDOUT_FILENO};
 
 fn main() {

@@ -13,7 +13,7 @@ use crate::sizes;
 use matching::{Range, pack};
 
 // The bounding box of some rows, their least number, and the greatest of their limits.
-#[derive(Drop)]
+#[derive(Clone, Copy)]
 pub struct Block {
     pub bounds: [i16; 4],
     pub least: u32,

@@ -1,5 +1,7 @@
 // Whether links are the join of two masters, told without joining them anew: in one pass over the links and one over the pairs of each sort.
 // Limits by which no pair blocks are lent, and only pairs that may block by the links' own limits are looked at.
+#![tactic(auto)]
+
 mod blocking;
 mod blocks;
 mod lanes;

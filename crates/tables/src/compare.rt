@@ -1,5 +1,5 @@
 // The first row in which two lists differ.
-#[derive(Drop)]
+#[derive(Clone, Copy)]
 pub enum Difference {
     None,
     Row(u16),

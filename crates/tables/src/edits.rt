@@ -10,7 +10,7 @@ ghost use Rattle.tables.specs.Laws.Changes.{change_of, Applies};
 use super::{fields, rows, sizes};
 
 // What an edit asks for.
-#[derive(Drop)]
+#[derive(Clone, Copy)]
 pub enum Change {
     Arrival,
     Departure,

@@ -9,7 +9,7 @@ use super::fields::number_at;
 use super::rows::{fields_good, fields_zero};
 use super::sizes::{NODE, NODES};
 
-#[derive(Drop)]
+#[derive(Clone, Copy)]
 pub enum Fault {
     None,
     Row(u16),

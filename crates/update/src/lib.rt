@@ -1,4 +1,6 @@
 // The set of rows after an edit of a table: one row is written anew, added or taken out.
+#![tactic(auto)]
+
 mod node;
 mod rows;
 
