@@ -17,7 +17,7 @@ use Rattle.boxes.specs.Boxes.{Between, Clamped}
 
 -- A coordinate is read back from its two bytes.
 pub held : (z : ℤ) → mag z < 32768 → to_z w16 (of_z w16 z) ≡ z
-held z h = to_z-of_z (sfits_of h)
+held z h = to_z-of_z {w = w16} (sfits_of h)
 
 -- Less is at most.
 le_lt : (x y : ℤ) → lt_z x y ≡ true → x ≤ℤ y

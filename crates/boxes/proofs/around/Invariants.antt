@@ -1,0 +1,16 @@
+-- The box stands around the rows passed.
+use Prim.Native.Nat.{◌-◌, ◌≤◌}
+use mathlib.Core.Path.{◌≡◌}
+use native.Mathlib.Omega.{arith}
+use borrow.Author.Rules.{rules}
+use Rattle.matching.specs.Definitions.Rows.{x_at, y_at}
+use Rattle.matching.specs.Laws.Sets.{inside_back}
+use Rattle.boxes.specs.Boxes.{Around}
+use Rattle.boxes.proofs.Laws.Boxes.{around_none, around_more}
+use Rattle.boxes.proofs.around.Given as goal
+
+abbrev pub invariant-loop-k : goal.invariant-loop-k
+invariant-loop-k l = (l.first ≤ l.k) × (l.k ≤ l.end) × Around l.at l.first l.k l.b
+
+abbrev pub decreases-loop-k : goal.decreases-loop-k
+decreases-loop-k l = l.end - l.k
