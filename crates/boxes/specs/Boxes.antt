@@ -1,5 +1,5 @@
 -- Bounding boxes.
-use Rattle.std.specs.Prelude.{ℕ, ◌≤◌, ◌<◌, List, ℤ, pos, nat_abs, length, get_or, ◌≤ℤ◌, ◌⊎◌}
+use Rattle.std.specs.Prelude.{ℕ, ◌≤◌, ◌<◌, List, ℤ, pos, nat_abs, get_or, ◌≤ℤ◌, ◌⊎◌}
 use Rattle.matching.specs.Definitions.Pairs.{squared_distance}
 use Rattle.matching.specs.Definitions.Columns.{Inside}
 use Rattle.matching.specs.Definitions.Rows.{across, upward, x_at, y_at}

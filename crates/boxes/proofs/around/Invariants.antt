@@ -1,12 +1,6 @@
 -- The box stands around the rows passed.
 use Prim.Native.Nat.{◌-◌, ◌≤◌}
-use mathlib.Core.Path.{◌≡◌}
-use native.Mathlib.Omega.{arith}
-use borrow.Author.Rules.{rules}
-use Rattle.matching.specs.Definitions.Rows.{x_at, y_at}
-use Rattle.matching.specs.Laws.Sets.{inside_back}
 use Rattle.boxes.specs.Boxes.{Around}
-use Rattle.boxes.proofs.Laws.Boxes.{around_none, around_more}
 use Rattle.boxes.proofs.around.Given as goal
 
 abbrev pub invariant-loop-k : goal.invariant-loop-k

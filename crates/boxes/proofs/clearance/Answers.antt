@@ -1,5 +1,4 @@
 -- No position in the box is nearer than the nearest.
-use borrow.Author.Rules.{rules}
 use Rattle.boxes.proofs.Laws.Boxes.{clear}
 use Rattle.boxes.proofs.clearance.Goals as goal
 

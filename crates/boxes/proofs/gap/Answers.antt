@@ -1,6 +1,5 @@
 -- The second box reaches as near to the position in the first as any two positions of theirs are.
 use mathlib.Core.List.{[], ◌∷◌}
-use borrow.Author.Rules.{rules}
 use Rattle.boxes.specs.Boxes.{west, south, Nearest}
 use Rattle.boxes.proofs.Laws.Places.{held}
 use Rattle.boxes.proofs.Laws.Boxes.{apart}

@@ -1,5 +1,4 @@
 -- Each edge goes as far as the position.
-use borrow.Author.Rules.{rules}
 use Rattle.boxes.proofs.Laws.Places.{held}
 use Rattle.boxes.proofs.Laws.Boxes.{grown}
 use Rattle.boxes.proofs.grow.Goals as goal

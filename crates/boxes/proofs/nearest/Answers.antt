@@ -1,5 +1,4 @@
 -- Along each axis the coordinate is clamped.
-use borrow.Author.Rules.{rules}
 use Rattle.boxes.proofs.Laws.Places.{held}
 use Rattle.boxes.proofs.Laws.Boxes.{nearest}
 use Rattle.boxes.proofs.nearest.Goals as goal

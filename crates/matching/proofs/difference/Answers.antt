@@ -1,5 +1,5 @@
 -- Two bytes hold every difference within reach but 32,768, and its negative has the same square.
-use Rattle.std.proofs.Common.{◌≡◌, ◌≤◌, sym, ◌∙◌, ap, ap₂, arith, ℤ, pos, negsuc, nat_abs, ◌-ℤ◌, w16, w32, SFits, to_z, of_z, to_z-of_z}
+use Rattle.std.proofs.Common.{◌≡◌, ◌≤◌, ◌∙◌, ap, ap₂, arith, ℤ, pos, negsuc, nat_abs, ◌-ℤ◌, w16, w32, SFits, to_z, of_z, to_z-of_z}
 use Rattle.matching.specs.Definitions.Pairs.{square}
 use Rattle.matching.specs.Definitions.Columns.{reach}
 use Rattle.matching.proofs.Laws.Widths.{read_back, fits}

@@ -9,7 +9,7 @@ use Rattle.matching.specs.Definitions.Lists.{All, sum_over}
 use Rattle.matching.specs.Definitions.Nodes.{Master, Node, has}
 use Rattle.matching.specs.Definitions.Pairs.{Before}
 use Rattle.matching.specs.Definitions.Links.{Link, pair_of, amount_of, used, Increasing, links_for}
-use Rattle.matching.specs.Laws.Lists.{all_map, all_in, all_at}
+use Rattle.matching.specs.Laws.Lists.{all_map}
 use Rattle.matching.specs.Laws.Order.{is_earlier, not_earlier}
 use Rattle.matching.specs.Theorems.Mutual.{put_link, puts}
 

@@ -1,10 +1,10 @@
 -- The order of the rows does not matter: the same nodes in another order have the same join.
-use Rattle.std.specs.Prelude.{ℕ, suc, ◌+◌, ◌≡◌, Bool, true, false, cond, eqb, length}
+use Rattle.std.specs.Prelude.{ℕ, ◌+◌, ◌≡◌, Bool, true, false, cond, eqb, length}
 use Rattle.std.proofs.Math.Path.{refl, sym, ap, ap₂, fun_ext}
 use Rattle.std.proofs.Common.{◌∙◌, eq-eqb, ne_eqb}
 use mathlib.Core.List.{List, [], ◌∷◌, map}
 use Rattle.std.proofs.Math.Decide.{ℕ_discrete}
-use Rattle.matching.specs.Definitions.Lists.{All, Reordered, same, swap, skip, then}
+use Rattle.matching.specs.Definitions.Lists.{Reordered, same, swap, skip, then}
 use Rattle.matching.specs.Definitions.Nodes.{each, Node, Unique, capacity_of, of_sort}
 use Rattle.matching.specs.Definitions.Pairs.{Pair, pair, pairs}
 use Rattle.matching.specs.Definitions.Join.{Left, capacities, lesser, consider, earliest, steps, whole, join}

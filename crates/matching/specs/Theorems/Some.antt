@@ -4,7 +4,7 @@ use mathlib.Core.List.{List, [], ◌∷◌, Memᴰ}
 use Rattle.std.proofs.Common.{arith}
 use Rattle.matching.specs.Definitions.Lists.{All}
 use Rattle.matching.specs.Definitions.Nodes.{Node, Unique}
-use Rattle.matching.specs.Definitions.Pairs.{Pair, pair, pairs}
+use Rattle.matching.specs.Definitions.Pairs.{Pair, pair}
 use Rattle.matching.specs.Definitions.Links.{Link}
 use Rattle.matching.specs.Definitions.Join.{Left, capacities, lesser, join}
 use Rattle.matching.specs.Laws.Lists.{all_at}

@@ -9,7 +9,7 @@ use Rattle.matching.specs.declared.Sorts.{Sorts}
 use Rattle.matching.specs.Definitions.Lists.{All, sum_over}
 use Rattle.matching.specs.Definitions.Nodes.{Master, master_a, master_b, each, Node, Unique, has, of_sort, capacity_of}
 use Rattle.matching.specs.Definitions.Pairs.{Pair, pair, pairs, earlier}
-use Rattle.matching.specs.Definitions.Links.{Link, pair_of, amount_of, used, Increasing, links_for}
+use Rattle.matching.specs.Definitions.Links.{Link, pair_of, amount_of, used, links_for}
 use Rattle.matching.specs.Definitions.Join.{capacities, steps, whole, join}
 use Rattle.matching.specs.Definitions.Stability.{Blocked, Unblocked}
 use Rattle.matching.specs.Definitions.Rows.{range, size, node_in, nodes_on, nodes_of, Fits}
@@ -23,7 +23,7 @@ use Rattle.matching.specs.Laws.Both.{of_all, of_unique, of_sort_on, of_sort_off}
 use Rattle.matching.specs.Laws.Parts.{has_node, Found, found, all_for, increasing_for, used_for, amount_for, puts_parts}
 use Rattle.matching.specs.Theorems.Join.{Nodes, join_nodes, join_increasing, join_amounts, join_separate}
 use Rattle.matching.specs.Theorems.Amounts.{join_within, join_unblocked}
-use Rattle.matching.specs.Theorems.Checked.{Sensible, links_unique, same_list}
+use Rattle.matching.specs.Theorems.Checked.{Sensible, links_unique}
 use Rattle.matching.specs.Theorems.Mutual.{puts}
 
 module _ (A B : List Node) (ua : Unique A) (ub : Unique B) where
