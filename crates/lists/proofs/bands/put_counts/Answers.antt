@@ -1,0 +1,26 @@
+use Prim.Native.Nat.{◌*◌}
+use mathlib.Core.Path.{sym, ◌∙◌}
+use native.Mathlib.Omega.{arith}
+use Rattle.tables.specs.Definitions.Sizes.{count_size}
+use Rattle.tables.specs.Definitions.Fields.{nat_bytes}
+use Rattle.tables.specs.Laws.Fields.{nat_length}
+use Rattle.tables.specs.Laws.Puts.{row_start, row_turn, row_end}
+use Rattle.lists.proofs.bands.put_counts.Goals as goal
+
+pub loop-k-init : goal.loop-k-init
+loop-k-init c = (c.requires.0, (omega arith, row_start (nat_bytes count_size) count_size (nat_length count_size) _ _ (omega arith)))
+
+pub loop-k-preserved : goal.loop-k-preserved
+loop-k-preserved c =
+    let l = c.loop-k in (
+      c.put_two.auto.s ∙ l.invariant.0,
+      (
+        omega arith,
+        rw c.put_two.ensures (row_turn (nat_bytes count_size) count_size (nat_length count_size) l.counts _ l.k 0 (omega arith) (omega arith)) ∙ l.invariant.1.1,
+      ),
+    )
+
+pub returns : goal.returns
+returns c =
+    let l = c.loop-k in
+    sym (row_end (nat_bytes count_size) count_size (nat_length count_size) l.counts _ (count_size * l.k) l.k (omega arith)) ∙ l.invariant.1.1
