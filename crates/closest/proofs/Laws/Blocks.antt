@@ -1,6 +1,6 @@
 -- Blocks: lists made and boxes put up block by block; a row that loses something. Assumes nothing.
-use Prim.Native.Nat.{ℕ, ◌+◌, ◌-◌, ◌/◌, ◌<◌, ◌≤◌}
-use mathlib.Core.Path.{◌≡◌, refl, sym, ◌∙◌, ap, subst}
+use Prim.Native.Nat.{ℕ, ◌+◌, ◌/◌, ◌<◌, ◌≤◌}
+use mathlib.Core.Path.{◌≡◌, refl, ◌∙◌, ap}
 use mathlib.Core.List.{List, [], ◌∷◌}
 use native.Mathlib.Decide.{ℕ_discrete}
 use native.Mathlib.Omega.{arith}
@@ -10,11 +10,11 @@ use lib.Seq.{get_or-set_same, get_or-set_other}
 use Rattle.matching.specs.declared.Range.{Range}
 use Rattle.matching.specs.Definitions.Nodes.{Master, master_a, master_b}
 use Rattle.matching.specs.Definitions.Sizes.{set_rows, set_blocks, block_rows}
-use Rattle.matching.specs.Definitions.Rows.{range, On}
+use Rattle.matching.specs.Definitions.Rows.{range}
 use Rattle.boxes.specs.Boxes.{Around}
 use Rattle.closest.specs.Rows.{Rows, Held, Sound}
 use Rattle.closest.specs.Live.{Lists, Elsewhere, Sized, May, Live, Gathered, Refreshed}
-use Rattle.closest.specs.Blocks.{start, stop, Block, Aligned, end_of, least_of, Least, Boxed, number_of, Laying, Laid, LaidAll, Kept, Fenced}
+use Rattle.closest.specs.Blocks.{start, stop, Block, end_of, least_of, Least, Boxed, number_of, Laying, Laid, LaidAll, Kept, Fenced}
 use Rattle.closest.proofs.Laws.Live.{same_refl, same_trans, live_same, live_left}
 use Rattle.closest.proofs.Laws.Refresh.{may_refresh, refreshed}
 use Rattle.closest.proofs.Laws.Spans.{aligned, in_block, one_master}

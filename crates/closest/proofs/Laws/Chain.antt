@@ -9,7 +9,7 @@ use lib.Dec.{eqb, ltb}
 use lib.ListN.{length, get_or, set, length-set}
 use lib.Seq.{get_or-set_same, get_or-set_other}
 use borrow.Author.Tests.{eq-eqb, ne_eqb, lt-ltb, le-ltb}
-use Rattle.matching.specs.Definitions.Nodes.{Master, master_a, master_b, other}
+use Rattle.matching.specs.Definitions.Nodes.{master_a, master_b, other}
 use Rattle.matching.specs.Definitions.Pairs.{Pair, Before}
 use Rattle.matching.specs.Definitions.Sizes.{half, set_rows}
 use Rattle.matching.specs.Definitions.Rows.{Spanned}

@@ -1,14 +1,14 @@
 -- The lists of rows that have something left. Assumes nothing.
-use Prim.Native.Nat.{ℕ, ◌+◌, ◌-◌, ◌<◌, ◌≤◌}
+use Prim.Native.Nat.{ℕ, ◌+◌, ◌<◌, ◌≤◌}
 use mathlib.Core.Path.{◌≡◌, refl, sym, ◌∙◌, ap}
 use mathlib.Core.List.{List, [], ◌∷◌}
 use native.Mathlib.Decide.{ℕ_discrete}
 use native.Mathlib.Omega.{arith}
 use lib.IntN.{ℤ}
-use lib.ListN.{length, get_or, set, length-set}
+use lib.ListN.{get_or, length-set}
 use lib.Seq.{get_or-set_same, get_or-set_other}
 use Rattle.matching.specs.Definitions.Sizes.{set_rows}
-use Rattle.closest.specs.Live.{Lists, number_at, row_at, spot_of, Same, Elsewhere, Sized, entered, Holds, Live, Noted, passes, enters, Gathered}
+use Rattle.closest.specs.Live.{Lists, row_at, spot_of, Same, Elsewhere, Sized, entered, Holds, Live, Noted, passes, enters, Gathered}
 
 pub same_refl : (Q : Lists) (k : ℕ) → Same Q Q k
 same_refl Q k = record { listed = refl; point = refl; spot = refl }

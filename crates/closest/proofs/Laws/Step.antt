@@ -18,7 +18,7 @@ use Rattle.closest.specs.declared.chain.State.{State}
 use Rattle.closest.specs.Sizes.{chain_rows}
 use Rattle.closest.specs.Rows.{Rows, Held, Faces, faces, rest, Sound}
 use Rattle.closest.specs.Live.{Lists}
-use Rattle.closest.specs.Blocks.{least_of, Kept, Fenced, Spent}
+use Rattle.closest.specs.Blocks.{Kept, Fenced, Spent}
 use Rattle.closest.specs.Order.{Table}
 use Rattle.closest.specs.Chain.{Pushed, Mutually, Trimmed, Takes, amount, lose, link_row, Taken, bit, whole, Ready, Room, Good, Stepped}
 use Rattle.closest.proofs.Laws.Spans.{held}
