@@ -1,0 +1,10 @@
+-- The earliest so far is one of the rows that are kept.
+use Prim.Native.Nat.{◌-◌, ◌<◌}
+use Rattle.repair.specs.Sizes.{surplus_rows}
+use Rattle.repair.proofs.surplus.earliest.Given as goal
+
+abbrev pub invariant-loop-i : goal.invariant-loop-i
+invariant-loop-i l = l.e < surplus_rows
+
+abbrev pub decreases-loop-i : goal.decreases-loop-i
+decreases-loop-i l = l.n - l.i
