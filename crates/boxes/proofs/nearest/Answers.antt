@@ -5,9 +5,6 @@ use Rattle.boxes.proofs.nearest.Goals as goal
 
 pub returns : goal.returns
 returns c =
-    let c1 = c in
-    let a = c1 in
-    let b = c in
-    let x = simp (held, a.clamp-arg-1.given, a.clamp-arg-2-1.given, a.clamp-arg-3-1.given) at c1.clamp.ensures in
-    let y = simp (held, b.clamp-arg-4-1.given, b.clamp-arg-5-1.given, b.clamp-arg-6-1.given) at c.clamp-2.ensures in
-    simp (held, c1.clamp.type_inv, c.clamp-2.type_inv) (nearest _ _ _ _ x y)
+    let x = simp (held, c.clamp-arg-1.given, c.clamp-arg-2-1.given, c.clamp-arg-3-1.given) at c.clamp.ensures in
+    let y = simp (held, c.clamp-arg-4-1.given, c.clamp-arg-5-1.given, c.clamp-arg-6-1.given) at c.clamp-2.ensures in
+    simp (held, c.clamp.type_inv, c.clamp-2.type_inv) (nearest _ _ _ _ x y)

@@ -1,27 +1,24 @@
 -- Tables in the set: what their rows denote.
-use Rattle.std.specs.Prelude.{ℕ, zero, suc, ◌+◌, ◌-◌, ◌≤◌, ◌<◌, ◌≡◌, refl, List, ◌++◌, ℤ, length, get_or}
-use Rattle.std.proofs.Common.{sym, ◌∙◌, ap, subst, arith}
+use Rattle.std.specs.Prelude.{ℕ, zero, suc, ◌+◌, ◌-◌, ◌≤◌, ◌<◌, ◌≡◌, refl, List, ◌++◌, ℤ, length}
+use Rattle.std.proofs.Common.{sym, subst, arith}
 use Rattle.matching.specs.declared.Range.{Range}
-use Rattle.matching.specs.declared.Spans.{Spans}
 use Rattle.matching.specs.declared.Sorts.{Sorts}
 use Rattle.matching.specs.Definitions.Lists.{All, Reordered, then}
-use Rattle.matching.specs.Definitions.Nodes.{Master, master_a, master_b, each, Node, Unique, of_sort}
+use Rattle.matching.specs.Definitions.Nodes.{Master, master_a, master_b, each, Node, of_sort}
 use Rattle.matching.specs.Definitions.Columns.{tabulate}
 use Rattle.matching.specs.Definitions.Sizes.{node_rows, half, set_rows}
-use Rattle.matching.specs.Definitions.Rows.{range, size, spans_of, On, Spanned, node_in, nodes_on, nodes_of, Fit, Represents}
-use Rattle.matching.specs.Laws.Lists.{all_map, all_at}
-use Rattle.matching.specs.Laws.Columns.{tabulate_all, tabulate_get, tabulate_cong, same_place}
-use Rattle.matching.specs.Laws.Sorts.{all_of_sort}
-use Rattle.matching.specs.Laws.Sets.{tabulate_unique, on_in, on_length}
+use Rattle.matching.specs.Definitions.Rows.{range, size, spans_of, Spanned, node_in, nodes_on}
+use Rattle.matching.specs.Laws.Columns.{tabulate_all, tabulate_cong}
+use Rattle.matching.specs.Laws.Sets.{tabulate_unique}
 use Rattle.matching.specs.Laws.Both.{unique_append}
-use Rattle.matching.specs.Laws.Reordered.{reordered_all, reordered_back}
+use Rattle.matching.specs.Laws.Reordered.{reordered_back}
 use Rattle.matching.specs.Theorems.RowOrder.{reordered_unique}
-use Rattle.tables.specs.Definitions.Tables.{nodes_in, Accepted, GoodNode, GoodNodes}
-use Rattle.tables.specs.Laws.Accepted.{room as few, nodes_good}
+use Rattle.tables.specs.Definitions.Tables.{nodes_in}
+use Rattle.tables.specs.Laws.Accepted.{room as few}
 use Rattle.load.specs.declared.table.Rows.{Rows}
 use Rattle.load.specs.Load.{Columns, Decoded, rows_of, Whole, Loaded, NextBlock}
-use Rattle.load.specs.Index.{Named, Distinct, Among, on_curve, off_curve}
-use Rattle.load.specs.Laws.Parts.{reordered_append, parts, parts_length, part_length, unique_left, unique_right, unique_across}
+use Rattle.load.specs.Index.{Named, on_curve, off_curve}
+use Rattle.load.specs.Laws.Parts.{reordered_append, parts, parts_length, part_length}
 use Rattle.load.specs.Laws.Decode.{same_node, same_then}
 
 -- There is room for each sort.

@@ -1,30 +1,26 @@
 -- Both tables in the set: their rows have their numbers, and represent them where their nodes are good.
-use Prim.Native.Nat.{ℕ, zero, suc, ◌+◌, ◌-◌, ◌≤◌, ◌<◌}
-use Rattle.std.specs.Prelude.{◌≡◌, refl, List, ◌++◌, ℤ, length, get_or}
-use Rattle.std.proofs.Common.{sym, ◌∙◌, subst, arith}
+use Prim.Native.Nat.{ℕ, zero, suc, ◌+◌, ◌-◌, ◌≤◌}
+use Rattle.std.specs.Prelude.{◌≡◌, List, ◌++◌, ℤ, length, get_or}
+use Rattle.std.proofs.Common.{sym, ◌∙◌, arith}
 use Rattle.std.proofs.Math.Path.{ap}
-use Rattle.matching.specs.declared.Range.{Range}
 use Rattle.matching.specs.declared.Spans.{Spans}
 use Rattle.matching.specs.declared.Sorts.{Sorts}
-use Rattle.matching.specs.Definitions.Lists.{All, Reordered, then}
+use Rattle.matching.specs.Definitions.Lists.{All, Reordered}
 use Rattle.matching.specs.Definitions.Nodes.{Master, master_a, master_b, each, Node, Unique, of_sort}
 use Rattle.matching.specs.Definitions.Columns.{tabulate}
-use Rattle.matching.specs.Definitions.Sizes.{node_rows, half, set_rows}
-use Rattle.matching.specs.Definitions.Rows.{range, size, spans_of, On, Spanned, node_in, nodes_on, nodes_of, Fit, Represents}
+use Rattle.matching.specs.Definitions.Sizes.{set_rows}
+use Rattle.matching.specs.Definitions.Rows.{range, size, spans_of, On, node_in, nodes_on, nodes_of, Fit, Represents}
 use Rattle.matching.specs.Laws.Lists.{all_map, all_at}
-use Rattle.matching.specs.Laws.Columns.{tabulate_all, tabulate_get, tabulate_cong, same_place}
+use Rattle.matching.specs.Laws.Columns.{tabulate_get, same_place}
 use Rattle.matching.specs.Laws.Sorts.{all_of_sort}
-use Rattle.matching.specs.Laws.Sets.{tabulate_unique, on_in, on_length}
-use Rattle.matching.specs.Laws.Both.{unique_append}
-use Rattle.matching.specs.Laws.Reordered.{reordered_all, reordered_back}
+use Rattle.matching.specs.Laws.Sets.{on_in, on_length}
+use Rattle.matching.specs.Laws.Reordered.{reordered_all}
 use Rattle.matching.specs.Theorems.RowOrder.{reordered_unique}
 use Rattle.tables.specs.Definitions.Tables.{nodes_in, Accepted, GoodNode, GoodNodes}
 use Rattle.tables.specs.Laws.Accepted.{room as few, nodes_good}
-use Rattle.load.specs.declared.table.Rows.{Rows}
 use Rattle.load.specs.Load.{rows_of, InSet, Loaded}
-use Rattle.load.specs.Index.{Named, Distinct, Among, on_curve, off_curve}
-use Rattle.load.specs.Laws.Parts.{reordered_append, parts, parts_length, part_length, unique_left, unique_right, unique_across}
-use Rattle.load.specs.Laws.Decode.{same_node, same_then}
+use Rattle.load.specs.Index.{Named}
+use Rattle.load.specs.Laws.Parts.{parts_length, unique_left, unique_right, unique_across}
 use Rattle.load.specs.Laws.Loaded.{rows_in, rows_named, all_parts}
 
 module _ {a b ns : List ℕ} {at : List (List ℤ)} {cs : List ℕ} {S : Sorts} (l : InSet a b ns at cs S) where
