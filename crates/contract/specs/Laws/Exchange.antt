@@ -1,14 +1,13 @@
 -- The calls on two tables with their finished list, and on the same tables exchanged.
 use Rattle.std.specs.Prelude.{ℕ, zero, suc, ◌≡◌, Bool, cond, ◌&&◌, ◌||◌, leb, length}
 use Rattle.std.proofs.Math.Path.{refl, ap}
-use Rattle.std.proofs.Common.{sym, ◌∙◌, ap₂, arith, eq-eqb, ne_eqb, eqb-true}
+use Rattle.std.proofs.Common.{sym, ◌∙◌, ap₂, arith, ne_eqb, eqb-true}
 use Rattle.std.proofs.Math.Bool.{true, false}
 use Rattle.std.proofs.Math.Option.{Option, none, some}
 use mathlib.Core.List.{List, [], ◌∷◌, ◌++◌, Memᴰ}
 use Rattle.std.proofs.Math.Decide.{ℕ_discrete}
 use Rattle.std.proofs.Math.Dec.{eqb}
 use Rattle.std.proofs.lemmas.Bool.{lt-leb}
-use Rattle.matching.specs.Definitions.Lists.{sum_over}
 use Rattle.matching.specs.Definitions.Nodes.{Master, master_a, master_b, each, other, Node, Unique, has}
 use Rattle.matching.specs.Definitions.Links.{Link, exchange}
 use Rattle.matching.specs.Definitions.Join as theory
@@ -18,7 +17,7 @@ use Rattle.matching.specs.Theorems.Exchange.{exchange_reordered, exchange_spare}
 use Rattle.tables.specs.Definitions.Sizes.{table_size, list_size, count_size, counts_size, band_count}
 use Rattle.tables.specs.Definitions.Fields.{nat_bytes}
 use Rattle.tables.specs.Definitions.Tables.{nodes_in, Accepted}
-use Rattle.tables.specs.Definitions.Lists.{finished, first_difference}
+use Rattle.tables.specs.Definitions.Lists.{finished}
 use Rattle.tables.specs.Definitions.Bands.{binary_digits, band, bands_from, band_bytes}
 use Rattle.tables.specs.Laws.Accepted.{nodes_good}
 use Rattle.tables.specs.Laws.Compare.{same_difference}

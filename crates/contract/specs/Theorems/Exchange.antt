@@ -1,6 +1,6 @@
 -- Light and bold exchanged: on the calls themselves, for any accepted tables and whatever the lists held (document 02, P1).
 use Rattle.std.specs.Prelude.{ℕ, suc, ◌≡◌, refl, Bool, true, false, List, [], ◌∷◌, map, eqb, length}
-use Rattle.std.proofs.Common.{sym, ◌∙◌, ap, ap₂}
+use Rattle.std.proofs.Common.{sym, ◌∙◌, ap}
 use Rattle.matching.specs.Definitions.Nodes.{Unique}
 use Rattle.matching.specs.Definitions.Links.{Link, exchange}
 use Rattle.matching.specs.Laws.Reordered.{reordered_length}
