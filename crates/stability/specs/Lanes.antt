@@ -1,5 +1,5 @@
 -- Lanes: a block's rows in columns of one length; a limit stands in them as a distance and a number.
-use Rattle.std.specs.Prelude.{ℕ, ◌+◌, ◌-◌, ◌≤◌, ◌<◌, min, ◌≡◌, cond, List, ℤ, pos, length, get_or, ltb}
+use Rattle.std.specs.Prelude.{ℕ, ◌+◌, ◌-◌, ◌<◌, min, ◌≡◌, cond, List, ℤ, pos, length, get_or, ltb}
 use Rattle.matching.specs.declared.Range.{Range}
 use Rattle.matching.specs.Definitions.Pairs.{squared_distance}
 use Rattle.matching.specs.Definitions.Columns.{Inside}

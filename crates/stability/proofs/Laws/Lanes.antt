@@ -1,6 +1,6 @@
 -- Lanes: filled one by one, and what they say of the block's rows. Assumes nothing.
-use Prim.Native.Nat.{ℕ, ◌+◌, ◌-◌, ◌*◌, ◌/◌, ◌%◌, ◌≤◌, ◌<◌}
-use mathlib.Core.Path.{◌≡◌, sym, ◌∙◌, ap₂}
+use Prim.Native.Nat.{ℕ, ◌+◌, ◌-◌, ◌/◌, ◌%◌, ◌≤◌, ◌<◌}
+use mathlib.Core.Path.{◌≡◌, ◌∙◌, ap₂}
 use mathlib.Core.List.{List}
 use native.Mathlib.Decide.{dec_lt}
 use native.Mathlib.Nat.{div-add-mod'}
@@ -8,16 +8,16 @@ use native.Mathlib.Omega.{arith}
 use borrow.Author.Count.{below_more}
 use borrow.Author.Tests.{lt-ltb, le-ltb}
 use lib.IntN.{ℤ, pos}
-use lib.ListN.{length, get_or, set, length-set}
+use lib.ListN.{get_or, set, length-set}
 use lib.Seq.{get_or-set_same, get_or-set_other}
 use Rattle.matching.specs.declared.Range.{Range}
 use Rattle.matching.specs.Definitions.Rows.{x_at, y_at, key, gap}
 use Rattle.matching.specs.Definitions.Sizes.{block_rows, number_range}
 use Rattle.stability.specs.declared.blocks.Block.{Block}
 use Rattle.stability.specs.Ranges.{RowOf, Ranged}
-use Rattle.stability.specs.Blocking.{Blocking, Stable}
+use Rattle.stability.specs.Blocking.{Blocking}
 use Rattle.stability.specs.Blocks.{Encloses}
-use Rattle.stability.specs.Lanes.{late, row_of, Sized, Lane, Lanes, Enclosed, StableLanes}
+use Rattle.stability.specs.Lanes.{late, row_of, Sized, Lanes, Enclosed, StableLanes}
 
 -- A limit is read the same from a key and from its distance and number.
 pub key_split : (l : ℕ) → key (l / number_range) (l % number_range) ≡ l

@@ -1,15 +1,14 @@
 -- What links show by themselves, put together. Assumes nothing.
-use mathlib.Core.Path.{◌≡◌, sym, ◌∙◌}
+use mathlib.Core.Path.{sym, ◌∙◌}
 use mathlib.Core.List.{List}
 use Prim.Native.Nat.{ℕ}
-use native.Mathlib.Omega.{arith}
 use lib.IntN.{ℤ}
-use lib.ListN.{length, get_or}
+use lib.ListN.{get_or}
 use Rattle.matching.specs.declared.Sorts.{Sorts}
 use Rattle.matching.specs.Definitions.Nodes.{Master}
-use Rattle.matching.specs.Definitions.Rows.{spans_of, On, link_in}
+use Rattle.matching.specs.Definitions.Rows.{spans_of, On}
 use Rattle.stability.specs.Ranges.{OfSorts, Filled}
-use Rattle.stability.specs.Links.{Ordered, key_of, Took}
+use Rattle.stability.specs.Links.{Ordered, Took}
 use Rattle.stability.specs.Limits.{Limit, full, spare, Limited, limited, unlimited, Held}
 use Rattle.stability.proofs.Laws.Ranges.{of_sorts}
 
