@@ -5,12 +5,12 @@ use mathlib.Core.List.{List}
 use native.Mathlib.Omega.{arith}
 use borrow.Author.Tests.{eq-eqb, ne_eqb}
 use lib.IntN.{ℤ}
-use lib.ListN.{length, get_or}
+use lib.ListN.{length}
 use Rattle.matching.specs.declared.Range.{Range}
 use Rattle.matching.specs.declared.Spans.{Spans}
 use Rattle.matching.specs.declared.Sorts.{Sorts}
 use Rattle.matching.specs.Definitions.Lists.{Reordered}
-use Rattle.matching.specs.Definitions.Nodes.{Master, master_a, master_b, other, each, Node, of_sort}
+use Rattle.matching.specs.Definitions.Nodes.{Master, master_a, master_b, other, each, of_sort}
 use Rattle.matching.specs.Definitions.Columns.{tabulate}
 use Rattle.matching.specs.Definitions.Rows.{range, size, spans_of, On, Spanned, node_in, nodes_on}
 use Rattle.matching.specs.Definitions.Sizes.{half, node_rows, link_rows, set_rows}
@@ -21,7 +21,7 @@ use Rattle.tables.specs.Definitions.Tables.{nodes_in}
 use Rattle.tables.specs.Definitions.Edits.{master_of, number_of}
 use Rattle.stability.specs.Barred.{Patched, fresh, moved, barred_patched}
 use Rattle.load.specs.declared.table.Rows.{Rows}
-use Rattle.load.specs.Load.{Columns, rows_of, InSet}
+use Rattle.load.specs.Load.{rows_of, InSet}
 use Rattle.load.specs.Laws.Parts.{part_length}
 use Rattle.load.specs.Laws.Loaded.{rows_in}
 use Rattle.load.specs.Laws.Represents.{rows_represent}
