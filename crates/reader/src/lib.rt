@@ -1,6 +1,6 @@
 // A reader over one lent table, without a copy of it: its nodes in row order, and a node by its number.
-// A table of a wrong length or with a faulty row gives none. The functions over `Reader` are thin, for their proofs
-// are done by hand: the work is in the functions on the slice and a row, which other callers may use too.
+// A table of a wrong length or with a faulty row gives none. The functions over `Reader` are thin: the work is in
+// the functions on the slice and a row, which other callers may use too.
 #![tactic(auto)]
 
 ghost use Rattle.std.specs.Prelude.{◌≡◌};
