@@ -20,7 +20,7 @@ use Rattle.tables.specs.Laws.Compare.{same_difference}
 use Rattle.lists.specs.Lists.{LinksRead, Comparable}
 use Rattle.contract.specs.declared.Answer.{Answer}
 use Rattle.contract.specs.declared.Answer.TheVariants.{Done}
-use Rattle.verdicts.specs.Lists.{links_on, leaves, by_row, list_answer, Listed, Beside}
+use Rattle.verdicts.specs.Lists.{links_on, by_row, list_answer, Listed, Beside}
 
 -- How many links are read from rows.
 pub in_length : (L : List (List ℕ)) (n : ℕ) → length (links_in L n) ≡ n
