@@ -1,6 +1,6 @@
 -- Tables in the set: before an edit, and after it.
-use Rattle.std.specs.Prelude.{ℕ, ◌≤◌, ◌≡◌, refl, true, List, [], ◌∷◌, ℤ, length, replicate}
-use Rattle.std.proofs.Common.{sym, ◌∙◌, ap, subst, arith}
+use Rattle.std.specs.Prelude.{ℕ, ◌≡◌, refl, true, List, [], ◌∷◌, ℤ, length, replicate}
+use Rattle.std.proofs.Common.{sym, ◌∙◌, ap, arith}
 use Rattle.std.proofs.Math.Path.{subst⁻¹}
 use Rattle.std.proofs.lemmas.List.{get_or-replicate, length-replicate}
 use Rattle.matching.specs.declared.Sorts.{Sorts}
@@ -12,7 +12,7 @@ use Rattle.matching.specs.Definitions.Rows.{spans_of, nodes_on, Spanned, Represe
 use Rattle.matching.specs.Laws.Sorts.{unique_of_sort}
 use Rattle.tables.specs.Definitions.Sizes.{list_size, edit_size}
 use Rattle.tables.specs.Definitions.Fields.{Bytes}
-use Rattle.tables.specs.Definitions.Tables.{nodes_in, first_fault, table_bytes, Accepted, GoodNodes}
+use Rattle.tables.specs.Definitions.Tables.{nodes_in, first_fault, Accepted, GoodNodes}
 use Rattle.tables.specs.Definitions.Edits.{master_of, number_of, edit_nodes, edit_table}
 use Rattle.tables.specs.Laws.Accepted.{nodes_good}
 use Rattle.tables.specs.Laws.Edits.{Passes}
