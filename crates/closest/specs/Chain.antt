@@ -6,7 +6,7 @@ use Rattle.matching.specs.Definitions.Pairs.{Before}
 use Rattle.matching.specs.Definitions.Links.{Link}
 use Rattle.matching.specs.Definitions.Sizes.{half, link_rows}
 use Rattle.matching.specs.Definitions.Rows.{On, Placed, links_in}
-use Rattle.matching.specs.Theorems.Mutual.{puts}
+use Rattle.matching.proofs.Theorems.Mutual.{puts}
 use Rattle.closest.specs.declared.chain.Pick.{Pick}
 use Rattle.closest.specs.declared.chain.Move.{Move}
 use Rattle.closest.specs.declared.chain.Move.TheVariants.{Stop, Push, Take}

@@ -5,7 +5,7 @@ use Rattle.matching.specs.declared.Spans.{Spans}
 use Rattle.matching.specs.Definitions.Pairs.{squared_distance}
 use Rattle.matching.specs.Definitions.Sizes.{half, set_blocks, number_range}
 use Rattle.matching.specs.Definitions.Rows.{across, upward, Placed, key}
-use Rattle.matching.specs.Laws.Earliest.{Leq}
+use Rattle.matching.proofs.Laws.Earliest.{Leq}
 use Rattle.closest.specs.declared.nearest.Near.{Near}
 use Rattle.closest.specs.Rows.{Rows, far, Faces, between}
 use Rattle.closest.specs.Live.{number_at}

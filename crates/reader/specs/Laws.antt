@@ -12,8 +12,8 @@ use Rattle.tables.specs.Definitions.Sizes.{node_size, node_rows, table_size}
 use Rattle.tables.specs.Definitions.Tables.{node_from, row_number, nodes_from, nodes_in, first_fault}
 use Rattle.tables.specs.Definitions.Code.{fault_of}
 use Rattle.tables.specs.declared.faults.Fault.TheVariants.{None, Row}
-use Rattle.tables.specs.Laws.Faults.{fault_row, fault_none}
-use Rattle.tables.specs.Laws.Accepted.{last_zero, still_zero}
+use Rattle.tables.proofs.Laws.Faults.{fault_row, fault_none}
+use Rattle.tables.proofs.Laws.Accepted.{last_zero, still_zero}
 use Rattle.tables.specs.Laws.Find.{RowOf}
 use Rattle.reader.specs.declared.Node.{Node as Held}
 use Rattle.reader.specs.declared.Found.TheVariants.{Nothing, One}

@@ -11,7 +11,7 @@ use Rattle.matching.specs.Definitions.Columns.{tabulate}
 use Rattle.tables.specs.Definitions.Sizes.{node_rows, table_size}
 use Rattle.tables.specs.Definitions.Tables.{nodes_in, first_fault}
 use Rattle.tables.specs.Laws.Rows.{and_split}
-use Rattle.tables.specs.Laws.Accepted.{room}
+use Rattle.tables.proofs.Laws.Accepted.{room}
 use Rattle.reader.specs.Definitions.{nth, numbered, missing, sound, readable, refused_row, start_row, row_after, node_at, node_of}
 use Rattle.reader.specs.Laws.{after_refused, after_read, after_none, after_again, start_refused, start_first, node_length, node_behind, of_length, of_refused, of_nodes, nth_behind, numbered_empty, row_node}
 

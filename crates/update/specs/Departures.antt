@@ -5,15 +5,15 @@ use Rattle.std.proofs.Math.Decide.{ℕ_discrete}
 use Rattle.matching.specs.Definitions.Lists.{Reordered, same, swap, skip, then}
 use Rattle.matching.specs.Definitions.Nodes.{Node, Absent, Unique, has, of_sort}
 use Rattle.matching.specs.Definitions.Edits.{depart, amend, moved, resized}
-use Rattle.matching.specs.Laws.Lists.{all_map}
-use Rattle.matching.specs.Laws.Sorts.{all_of_sort}
-use Rattle.matching.specs.Laws.Split.{Split, split, absent_of_unique}
-use Rattle.matching.specs.Laws.Undo.{arrive-depart}
-use Rattle.matching.specs.Theorems.RowOrder.{reordered_unique}
+use Rattle.matching.proofs.Laws.Lists.{all_map}
+use Rattle.matching.proofs.Laws.Sorts.{all_of_sort}
+use Rattle.matching.proofs.Laws.Split.{Split, split, absent_of_unique}
+use Rattle.matching.proofs.Laws.Undo.{arrive-depart}
+use Rattle.matching.proofs.Theorems.RowOrder.{reordered_unique}
 use Rattle.tables.specs.Definitions.Tables.{node_from}
 use Rattle.tables.specs.Definitions.Edits.{number_of, edit_node, edit_nodes}
-use Rattle.tables.specs.Laws.Edits.{Passes, Kind, arrival, departure, move, capacity, kind_cases}
-use Rattle.tables.specs.Laws.Edited.{has_none}
+use Rattle.tables.proofs.Laws.Edits.{Passes, Kind, arrival, departure, move, capacity, kind_cases}
+use Rattle.tables.proofs.Laws.Edited.{has_none}
 
 -- No node has the number.
 pub depart_absent : (z : ℕ) (A : List Node) → Absent z A → depart z A ≡ A

@@ -10,7 +10,7 @@ use lib.ListN.{get_or}
 use Rattle.matching.specs.Definitions.Pairs.{squared_distance}
 use Rattle.matching.specs.Definitions.Columns.{edge, Inside}
 use Rattle.matching.specs.Definitions.Rows.{across, upward, x_at, y_at}
-use Rattle.matching.specs.Laws.Distance.{inside_reach, distance_fits}
+use Rattle.matching.proofs.Laws.Distance.{inside_reach, distance_fits}
 use Rattle.boxes.specs.Boxes.{west, east, south, north, In, Inner, Around, Clear, Gap, Clamped, Nearest, Least, Greatest, Grown}
 use Rattle.boxes.proofs.Laws.Places.{le_then, between_near, reaches}
 

@@ -1,7 +1,7 @@
 use mathlib.Core.Path.{◌≡◌}
 use native.Mathlib.Omega.{arith}
 use Rattle.matching.specs.Definitions.Rows.{x_at, y_at}
-use Rattle.matching.specs.Laws.Sets.{inside_back}
+use Rattle.matching.proofs.Laws.Sets.{inside_back}
 use Rattle.boxes.proofs.Laws.Boxes.{around_none, around_more}
 use Rattle.boxes.proofs.around.Goals as goal
 

@@ -13,8 +13,8 @@ use Rattle.matching.specs.Definitions.Nodes.{master_a, master_b, other}
 use Rattle.matching.specs.Definitions.Pairs.{Pair, Before}
 use Rattle.matching.specs.Definitions.Sizes.{half, set_rows}
 use Rattle.matching.specs.Definitions.Rows.{Spanned}
-use Rattle.matching.specs.Laws.Order.{before_trans}
-use Rattle.matching.specs.Laws.Earliest.{Leq, strictly, equally}
+use Rattle.matching.proofs.Laws.Order.{before_trans}
+use Rattle.matching.proofs.Laws.Earliest.{Leq, strictly, equally}
 use Rattle.closest.specs.declared.chain.Move.TheVariants.{Take}
 use Rattle.closest.specs.Sizes.{chain_rows}
 use Rattle.closest.specs.Rows.{Rows, Held, far, Faces, faces, between, Sound}

@@ -10,8 +10,8 @@ use Rattle.matching.specs.Definitions.Nodes.{Master, master_a, master_b, other}
 use Rattle.matching.specs.Definitions.Columns.{Inside}
 use Rattle.matching.specs.Definitions.Sizes.{set_rows, set_blocks, block_rows, number_range}
 use Rattle.matching.specs.Definitions.Rows.{range, On, across, upward, Placed, gap}
-use Rattle.matching.specs.Laws.Distance.{inside_reach, distance_fits}
-use Rattle.matching.specs.Laws.Earliest.{Leq}
+use Rattle.matching.proofs.Laws.Distance.{inside_reach, distance_fits}
+use Rattle.matching.proofs.Laws.Earliest.{Leq}
 use Rattle.closest.specs.declared.nearest.Near.{Near}
 use Rattle.closest.specs.declared.chain.Move.{Move}
 use Rattle.closest.specs.declared.chain.Move.TheVariants.{Stop, Push, Take}

@@ -10,9 +10,9 @@ use Rattle.matching.specs.Definitions.Nodes.{Master, master_a, master_b, each, o
 use Rattle.matching.specs.Definitions.Pairs.{Pair, Before, nearer, lower_a, lower_b}
 use Rattle.matching.specs.Definitions.Sizes.{half, number_range}
 use Rattle.matching.specs.Definitions.Rows.{On, Spanned, key}
-use Rattle.matching.specs.Laws.Sets.{gap_swap}
-use Rattle.matching.specs.Laws.Order.{before_trans, before_irrefl}
-use Rattle.matching.specs.Laws.Earliest.{Leq, strictly, equally}
+use Rattle.matching.proofs.Laws.Sets.{gap_swap}
+use Rattle.matching.proofs.Laws.Order.{before_trans, before_irrefl}
+use Rattle.matching.proofs.Laws.Earliest.{Leq, strictly, equally}
 use Rattle.closest.specs.Rows.{Rows, far, Faces, faces, row_pair, between, Sound}
 
 -- Distances are the same from either end.

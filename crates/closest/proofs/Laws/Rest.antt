@@ -16,16 +16,16 @@ use Rattle.matching.specs.Definitions.Pairs.{Pair, number_in, distance, pair, pa
 use Rattle.matching.specs.Definitions.Join.{Left, capacities, less, lesser, taken}
 use Rattle.matching.specs.Definitions.Columns.{tabulate}
 use Rattle.matching.specs.Definitions.Rows.{range, On, gap, node_in, nodes_on, link_of}
-use Rattle.matching.specs.Laws.Lists.{all_in}
-use Rattle.matching.specs.Laws.Left.{less_hit, less_other}
-use Rattle.matching.specs.Laws.Earliest.{Leq}
-use Rattle.matching.specs.Laws.Sorting.{sort, along, along_none, all_sort, sorted_join}
-use Rattle.matching.specs.Laws.Columns.{tabulate_all}
-use Rattle.matching.specs.Laws.Sets.{on_all}
-use Rattle.matching.specs.Laws.Sums.{all_pairs_lem, all_nodes}
-use Rattle.matching.specs.Theorems.Join.{join_sorted}
-use Rattle.matching.specs.Theorems.Sorts.{all_pairs, pairs_alike}
-use Rattle.matching.specs.Theorems.Mutual.{put_link, mutual_first}
+use Rattle.matching.proofs.Laws.Lists.{all_in}
+use Rattle.matching.proofs.Laws.Left.{less_hit, less_other}
+use Rattle.matching.proofs.Laws.Earliest.{Leq}
+use Rattle.matching.proofs.Laws.Sorting.{sort, along, along_none, all_sort, sorted_join}
+use Rattle.matching.proofs.Laws.Columns.{tabulate_all}
+use Rattle.matching.proofs.Laws.Sets.{on_all}
+use Rattle.matching.proofs.Laws.Sums.{all_pairs_lem, all_nodes}
+use Rattle.matching.proofs.Theorems.Join.{join_sorted}
+use Rattle.matching.proofs.Theorems.Sorts.{all_pairs, pairs_alike}
+use Rattle.matching.proofs.Theorems.Mutual.{put_link, mutual_first}
 use Rattle.closest.specs.declared.chain.Pick.{Pick}
 use Rattle.closest.specs.Rows.{Rows, faces, row_pair, rest, Sound}
 use Rattle.closest.specs.Nearest.{Chosen}

@@ -12,11 +12,11 @@ use Rattle.matching.specs.Definitions.Join.{join}
 use Rattle.matching.specs.Definitions.Columns.{tabulate}
 use Rattle.matching.specs.Definitions.Sizes.{link_rows}
 use Rattle.matching.specs.Definitions.Rows.{On, spans_of, nodes_of, link_in, links_in, Fits, Joined}
-use Rattle.matching.specs.Laws.Both.{of_length}
-use Rattle.matching.specs.Laws.Columns.{tabulate-length}
-use Rattle.matching.specs.Theorems.Join.{join_count}
-use Rattle.matching.specs.Theorems.Mutual.{put_length, puts}
-use Rattle.matching.specs.Theorems.Sorts.{rows_join}
+use Rattle.matching.proofs.Laws.Both.{of_length}
+use Rattle.matching.proofs.Laws.Columns.{tabulate-length}
+use Rattle.matching.proofs.Theorems.Join.{join_count}
+use Rattle.matching.proofs.Theorems.Mutual.{put_length, puts}
+use Rattle.matching.proofs.Theorems.Sorts.{rows_join}
 use Rattle.closest.specs.Rows.{Rows, rows, rest, Sound}
 use Rattle.closest.specs.Order.{Table, Arranged}
 use Rattle.closest.specs.Chain.{whole, Room, Picked}

@@ -11,8 +11,8 @@ use Rattle.matching.specs.Definitions.Nodes.{master_a, master_b}
 use Rattle.matching.specs.Definitions.Links.{Link}
 use Rattle.matching.specs.Definitions.Sizes.{half, set_rows}
 use Rattle.matching.specs.Definitions.Rows.{On, link_of, links_in}
-use Rattle.matching.specs.Laws.Sets.{link_more}
-use Rattle.matching.specs.Theorems.Mutual.{put_link, put_length, puts, puts_snoc}
+use Rattle.matching.proofs.Laws.Sets.{link_more}
+use Rattle.matching.proofs.Theorems.Mutual.{put_link, put_length, puts, puts_snoc}
 use Rattle.closest.specs.declared.chain.Pick.{Pick}
 use Rattle.closest.specs.declared.chain.State.{State}
 use Rattle.closest.specs.Sizes.{chain_rows}

@@ -10,7 +10,7 @@ use Rattle.matching.specs.Definitions.Lists.{sum_over}
 use Rattle.matching.specs.Definitions.Links.{Link}
 use Rattle.matching.specs.Definitions.Columns.{tabulate}
 use Rattle.matching.specs.Definitions.Rows.{link_in, links_in}
-use Rattle.matching.specs.Laws.Columns.{tabulate-length}
+use Rattle.matching.proofs.Laws.Columns.{tabulate-length}
 use Rattle.tables.specs.Definitions.Sizes.{count_size, band_count}
 use Rattle.tables.specs.Definitions.Fields.{nat_bytes}
 use Rattle.tables.specs.Definitions.Rows.{flat}

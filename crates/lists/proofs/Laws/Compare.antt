@@ -9,7 +9,7 @@ use lib.ListN.{length, get_or, get_or-eq_default}
 use Rattle.matching.specs.Definitions.Links.{Link, same_link}
 use Rattle.matching.specs.Definitions.Rows.{link_in, links_in}
 use Rattle.matching.specs.Definitions.Sizes.{link_rows}
-use Rattle.matching.specs.Laws.Columns.{tabulate-length, tabulate_get}
+use Rattle.matching.proofs.Laws.Columns.{tabulate-length, tabulate_get}
 use Rattle.tables.specs.Definitions.Sizes.{link_size, list_size}
 use Rattle.tables.specs.Definitions.Fields.{Bytes}
 use Rattle.tables.specs.Definitions.Rows.{flat, padded}

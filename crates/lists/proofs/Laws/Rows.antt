@@ -14,7 +14,7 @@ use Rattle.matching.specs.Definitions.Links.{Link, pair_of, used}
 use Rattle.matching.specs.Definitions.Columns.{tabulate}
 use Rattle.matching.specs.Definitions.Rows.{link_of, link_in, links_in}
 use Rattle.matching.specs.Definitions.Sizes.{link_rows}
-use Rattle.matching.specs.Laws.Sets.{link_more}
+use Rattle.matching.proofs.Laws.Sets.{link_more}
 use Rattle.tables.specs.Definitions.Sizes.{number_size, link_size}
 use Rattle.tables.specs.Definitions.Fields.{nat_at}
 use Rattle.tables.specs.Definitions.Lists.{link_from, links_from}

@@ -7,7 +7,7 @@ use native.Mathlib.Omega.{arith}
 use lib.Dec.{eqb}
 use borrow.Author.Tests.{eq-eqb, ne_eqb}
 use Rattle.tables.specs.Definitions.Rows.{all_from}
-use Rattle.tables.specs.Laws.Search.{all_here, all_on}
+use Rattle.tables.proofs.Laws.Search.{all_here, all_on}
 
 -- One byte more, beside what was found so far.
 pub all_next : (p : ℕ → Bool) (k e : ℕ) → k < e → (b : Bool) → (b && all_from p k (e - k)) ≡ ((b && p k) && all_from p (k + 1) (e - (k + 1)))

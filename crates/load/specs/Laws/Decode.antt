@@ -11,10 +11,10 @@ use Rattle.matching.specs.Definitions.Nodes.{Node, of_sort}
 use Rattle.matching.specs.Definitions.Columns.{tabulate}
 use Rattle.matching.specs.Definitions.Sizes.{node_rows, set_rows}
 use Rattle.matching.specs.Definitions.Rows.{across, upward, node_in}
-use Rattle.matching.specs.Laws.Columns.{tabulate-length, tabulate_cong, tabulate_snoc}
+use Rattle.matching.proofs.Laws.Columns.{tabulate-length, tabulate_cong, tabulate_snoc}
 use Rattle.tables.specs.Definitions.Sizes.{node_size}
 use Rattle.tables.specs.Definitions.Tables.{node_from, row_number, nodes_from, nodes_in}
-use Rattle.tables.specs.Laws.Accepted.{room}
+use Rattle.tables.proofs.Laws.Accepted.{room}
 use Rattle.tables.specs.Laws.Nodes.{nodes_end, nodes_next, nodes_full}
 use Rattle.packing.specs.Packed.{Same, Packable, Packed}
 use Rattle.load.specs.Load.{Columns, Written, Stored, Advanced, alike, other, Decoded}

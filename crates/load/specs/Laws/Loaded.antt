@@ -8,13 +8,13 @@ use Rattle.matching.specs.Definitions.Nodes.{Master, master_a, master_b, each, N
 use Rattle.matching.specs.Definitions.Columns.{tabulate}
 use Rattle.matching.specs.Definitions.Sizes.{node_rows, half, set_rows}
 use Rattle.matching.specs.Definitions.Rows.{range, size, spans_of, Spanned, node_in, nodes_on}
-use Rattle.matching.specs.Laws.Columns.{tabulate_all, tabulate_cong}
-use Rattle.matching.specs.Laws.Sets.{tabulate_unique}
-use Rattle.matching.specs.Laws.Both.{unique_append}
-use Rattle.matching.specs.Laws.Reordered.{reordered_back}
-use Rattle.matching.specs.Theorems.RowOrder.{reordered_unique}
+use Rattle.matching.proofs.Laws.Columns.{tabulate_all, tabulate_cong}
+use Rattle.matching.proofs.Laws.Sets.{tabulate_unique}
+use Rattle.matching.proofs.Laws.Both.{unique_append}
+use Rattle.matching.proofs.Laws.Reordered.{reordered_back}
+use Rattle.matching.proofs.Theorems.RowOrder.{reordered_unique}
 use Rattle.tables.specs.Definitions.Tables.{nodes_in}
-use Rattle.tables.specs.Laws.Accepted.{room as few}
+use Rattle.tables.proofs.Laws.Accepted.{room as few}
 use Rattle.load.specs.declared.table.Rows.{Rows}
 use Rattle.load.specs.Load.{Columns, Decoded, rows_of, Whole, Loaded, NextBlock}
 use Rattle.load.specs.Index.{Named, on_curve, off_curve}

@@ -5,7 +5,7 @@ use mathlib.Core.List.{List, [], ◌∷◌, ◌++◌}
 use Rattle.std.proofs.Math.Decide.{ℕ_discrete}
 use Rattle.matching.specs.Definitions.Lists.{All, Reordered, same, swap, skip, then}
 use Rattle.matching.specs.Definitions.Nodes.{Node, Unique, of_sort}
-use Rattle.matching.specs.Laws.Lists.{all_append_left, all_append_right}
+use Rattle.matching.proofs.Laws.Lists.{all_append_left, all_append_right}
 
 -- Two lists in another order, one behind the other.
 pub reordered_append : {A C B D : List Node} → Reordered A C → Reordered B D → Reordered (A ++ B) (C ++ D)

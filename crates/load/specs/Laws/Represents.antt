@@ -10,14 +10,14 @@ use Rattle.matching.specs.Definitions.Nodes.{Master, master_a, master_b, each, N
 use Rattle.matching.specs.Definitions.Columns.{tabulate}
 use Rattle.matching.specs.Definitions.Sizes.{set_rows}
 use Rattle.matching.specs.Definitions.Rows.{range, size, spans_of, On, node_in, nodes_on, nodes_of, Fit, Represents}
-use Rattle.matching.specs.Laws.Lists.{all_map, all_at}
-use Rattle.matching.specs.Laws.Columns.{tabulate_get, same_place}
-use Rattle.matching.specs.Laws.Sorts.{all_of_sort}
-use Rattle.matching.specs.Laws.Sets.{on_in, on_length}
-use Rattle.matching.specs.Laws.Reordered.{reordered_all}
-use Rattle.matching.specs.Theorems.RowOrder.{reordered_unique}
+use Rattle.matching.proofs.Laws.Lists.{all_map, all_at}
+use Rattle.matching.proofs.Laws.Columns.{tabulate_get, same_place}
+use Rattle.matching.proofs.Laws.Sorts.{all_of_sort}
+use Rattle.matching.proofs.Laws.Sets.{on_in, on_length}
+use Rattle.matching.proofs.Laws.Reordered.{reordered_all}
+use Rattle.matching.proofs.Theorems.RowOrder.{reordered_unique}
 use Rattle.tables.specs.Definitions.Tables.{nodes_in, Accepted, GoodNode, GoodNodes}
-use Rattle.tables.specs.Laws.Accepted.{room as few, nodes_good}
+use Rattle.tables.proofs.Laws.Accepted.{room as few, nodes_good}
 use Rattle.load.specs.Load.{rows_of, InSet, Loaded}
 use Rattle.load.specs.Index.{Named}
 use Rattle.load.specs.Laws.Parts.{parts_length, unique_left, unique_right, unique_across}

@@ -6,14 +6,14 @@ use Rattle.std.proofs.Math.Option.{none}
 use Rattle.std.proofs.Math.Decide.{dec_lt}
 use Rattle.matching.specs.Definitions.Lists.{All}
 use Rattle.matching.specs.Definitions.Nodes.{Node, Unique}
-use Rattle.matching.specs.Laws.Columns.{same_place}
+use Rattle.matching.proofs.Laws.Columns.{same_place}
 use Rattle.tables.specs.Definitions.Sizes.{node_size, node_rows}
 use Rattle.tables.specs.Definitions.Tables.{node_from, row_number, nodes_in, fields_good, faulty, first_fault}
 use Rattle.tables.specs.Laws.Rows.{from_none}
 use Rattle.tables.specs.Laws.Nodes.{RowAt, rows_at}
-use Rattle.tables.specs.Laws.Accepted.{room, fields_range}
-use Rattle.tables.specs.Laws.Faultless.{not_stands}
-use Rattle.tables.specs.Laws.Faults.{faulty_zero, faulty_gap}
+use Rattle.tables.proofs.Laws.Accepted.{room, fields_range}
+use Rattle.tables.proofs.Laws.Faultless.{not_stands}
+use Rattle.tables.proofs.Laws.Faults.{faulty_zero, faulty_gap}
 use Rattle.load.specs.Fault.{ZeroRow}
 
 -- A table ends where its rows are zero from there on.

@@ -1,5 +1,5 @@
 -- The order's laws, field by field.
-use Rattle.matching.specs.Laws.Order.{earlier-distance, earlier-a, earlier-b}
+use Rattle.matching.proofs.Laws.Order.{earlier-distance, earlier-a, earlier-b}
 use Rattle.matching.proofs.is_earlier.Goals as goal
 
 pub returns-then-d-e : goal.returns-then-d-e

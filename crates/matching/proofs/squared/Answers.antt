@@ -2,7 +2,7 @@
 use Rattle.std.proofs.Common.{◌≡◌, ◌*◌, ◌≤◌, ◌∙◌, ap, arith, ℤ, pos, ◌-ℤ◌, ◌*ℤ◌, nat_abs, w16, w32, SFits, to_z, of_z, to_z-of_z}
 use Rattle.matching.specs.Definitions.Pairs.{square}
 use Rattle.matching.specs.Definitions.Columns.{reach}
-use Rattle.matching.specs.Laws.Distance.{times_self, square_le}
+use Rattle.matching.proofs.Laws.Distance.{times_self, square_le}
 use Rattle.matching.proofs.Laws.Widths.{read_back, fits, apart}
 use Rattle.matching.proofs.squared.Goals as goal
 

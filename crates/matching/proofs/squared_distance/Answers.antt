@@ -1,7 +1,7 @@
 -- Within reach the sum of the two squares fits four bytes.
 use Rattle.std.proofs.Common.{ap, arith}
 use Rattle.matching.specs.Definitions.Pairs.{square}
-use Rattle.matching.specs.Laws.Distance.{distance_fits}
+use Rattle.matching.proofs.Laws.Distance.{distance_fits}
 use Rattle.matching.proofs.Laws.Widths.{apart}
 use Rattle.matching.proofs.squared_distance.Goals as goal
 

@@ -9,15 +9,15 @@ use Rattle.matching.specs.Definitions.Nodes.{Master, master_a, master_b, each, N
 use Rattle.matching.specs.Definitions.Edits.{depart}
 use Rattle.matching.specs.Definitions.Sizes.{set_rows}
 use Rattle.matching.specs.Definitions.Rows.{spans_of, nodes_on, Spanned, Represents}
-use Rattle.matching.specs.Laws.Sorts.{unique_of_sort}
+use Rattle.matching.proofs.Laws.Sorts.{unique_of_sort}
 use Rattle.tables.specs.Definitions.Sizes.{list_size, edit_size}
 use Rattle.tables.specs.Definitions.Fields.{Bytes}
 use Rattle.tables.specs.Definitions.Tables.{nodes_in, first_fault, Accepted, GoodNodes}
 use Rattle.tables.specs.Definitions.Edits.{master_of, number_of, edit_nodes, edit_table}
-use Rattle.tables.specs.Laws.Accepted.{nodes_good}
-use Rattle.tables.specs.Laws.Edits.{Passes}
-use Rattle.tables.specs.Laws.Edited.{edit_good}
-use Rattle.tables.specs.Laws.Tables.{table_nodes}
+use Rattle.tables.proofs.Laws.Accepted.{nodes_good}
+use Rattle.tables.proofs.Laws.Edits.{Passes}
+use Rattle.tables.proofs.Laws.Edited.{edit_good}
+use Rattle.tables.proofs.Laws.Tables.{table_nodes}
 use Rattle.stability.specs.Barred.{Barred, barred_fresh}
 use Rattle.load.specs.Load.{Loaded}
 use Rattle.load.specs.Laws.Represents.{loaded_represents}
@@ -27,7 +27,7 @@ use Rattle.contract.specs.declared.Answer.{Answer}
 use Rattle.contract.specs.Definitions.Buffers.{lent, lengths_of, master_named}
 use Rattle.contract.specs.Definitions.Requests.{pair_shape}
 use Rattle.contract.specs.Definitions.Refusals.{lengths_right}
-use Rattle.contract.specs.Laws.Programs.{edit_is, edited_accepted}
+use Rattle.contract.proofs.Laws.Programs.{edit_is, edited_accepted}
 use Rattle.verdicts.specs.Edit.{Changed}
 use Rattle.verdicts.specs.Laws.Answers.{Among}
 use Rattle.pairing.specs.Verdicts.{Sound, by_faults}

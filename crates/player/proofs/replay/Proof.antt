@@ -7,7 +7,7 @@ use lib.Seq.{length-take-le}
 use Rattle.tables.specs.Definitions.Sizes.{table_size, list_size}
 use Rattle.player.specs.Laws.Text.{written_as}
 use Rattle.player.specs.Laws.Play.{input_short, input_whole, copied}
-use Rattle.tables.specs.Laws.Puts.{part_from}
+use Rattle.tables.proofs.Laws.Puts.{part_from}
 use Rattle.player.specs.Definitions.Transcript.{tables_size, load_lines}
 use Rattle.player.proofs.replay.Statement.{statement}
 use Rattle.player.proofs.replay.Tie as tie

@@ -6,7 +6,7 @@ use mathlib.Core.List.{List, [], ◌∷◌, ◌++◌, append-nil}
 use Rattle.std.proofs.Math.ListN.{length}
 use Rattle.matching.specs.Definitions.Columns.{tabulate}
 use Rattle.matching.specs.Definitions.Rows.{link_in, links_in}
-use Rattle.matching.specs.Laws.Columns.{tabulate-length, tabulate_split}
+use Rattle.matching.proofs.Laws.Columns.{tabulate-length, tabulate_split}
 use Rattle.tables.specs.Definitions.Rows.{flat}
 use Rattle.tables.specs.Definitions.Lists.{links_in as listed}
 use Rattle.tables.specs.Laws.Rows.{flat_append}

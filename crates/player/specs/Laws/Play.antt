@@ -8,7 +8,7 @@ use borrow.Author.Tests.{lt-ltb, le-ltb, eq-eqb, ne_eqb}
 use Rattle.tables.specs.Definitions.Sizes.{list_size, edit_size}
 use Rattle.tables.specs.Definitions.Rows.{put}
 use Rattle.tables.specs.Definitions.Lists.{links_in}
-use Rattle.tables.specs.Laws.ListCode.{put_all}
+use Rattle.tables.proofs.Laws.ListCode.{put_all}
 use Rattle.contract.specs.Definitions.Buffers.{lent}
 use Rattle.contract.specs.Definitions.Shapes.{Outcome}
 use Rattle.contract.specs.Definitions.Calls.{pair_call, edit_call}

@@ -4,7 +4,7 @@ use Rattle.std.proofs.Common.{sym, ◌∙◌, ap, pow-suc, arith, length-append,
 use Rattle.std.proofs.Math.Decide.{dec_lt}
 use Rattle.tables.specs.Definitions.Rows.{put}
 use Rattle.tables.specs.Laws.Rows.{put_none, put_cons}
-use Rattle.tables.specs.Laws.ListCode.{put_next}
+use Rattle.tables.proofs.Laws.ListCode.{put_next}
 use Rattle.player.specs.Definitions.Text.{digit, digits, decimal, Written}
 
 -- Any number of digits that is enough serves.

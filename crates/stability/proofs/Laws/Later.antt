@@ -10,7 +10,7 @@ use Rattle.matching.specs.declared.Sorts.{Sorts}
 use Rattle.matching.specs.Definitions.Nodes.{master_a, master_b}
 use Rattle.matching.specs.Definitions.Rows.{spans_of}
 use Rattle.matching.specs.Definitions.Sizes.{set_rows}
-use Rattle.matching.specs.Laws.Sets.{gap_swap}
+use Rattle.matching.proofs.Laws.Sets.{gap_swap}
 use Rattle.stability.specs.Ranges.{RowOf, OfSorts, Filled}
 use Rattle.stability.specs.Blocking.{Blocking, Stable}
 use Rattle.stability.specs.Later.{Later, sooner, later, Moved, moved, none, Passed, kept, stable, StillStable}

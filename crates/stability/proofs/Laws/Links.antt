@@ -20,9 +20,9 @@ use Rattle.matching.specs.Definitions.Pairs.{number_in, Before}
 use Rattle.matching.specs.Definitions.Links.{Link, pair_of, used, Increasing}
 use Rattle.matching.specs.Definitions.Columns.{tabulate}
 use Rattle.matching.specs.Definitions.Rows.{Fits, spans_of, On, link_in, links_in}
-use Rattle.matching.specs.Laws.Columns.{tabulate_all, tabulate_snoc}
-use Rattle.matching.specs.Laws.Order.{before_trans}
-use Rattle.matching.specs.Laws.Sums.{sum_append}
+use Rattle.matching.proofs.Laws.Columns.{tabulate_all, tabulate_snoc}
+use Rattle.matching.proofs.Laws.Order.{before_trans}
+use Rattle.matching.proofs.Laws.Sums.{sum_append}
 use Rattle.stability.specs.Links.{Ordered, key_of, Within, Spent, Ready, Taken, Side, Took}
 use Rattle.stability.proofs.Laws.Ranges.{on_one, fits_distinct, in_set}
 

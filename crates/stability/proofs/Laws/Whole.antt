@@ -14,10 +14,10 @@ use Rattle.matching.specs.Definitions.Links.{Link, pair_of, used}
 use Rattle.matching.specs.Definitions.Join.{join}
 use Rattle.matching.specs.Definitions.Rows.{Fits, spans_of, On, gap, key, node_in, nodes_of, link_in, links_in}
 use Rattle.matching.specs.Definitions.Sizes.{number_range}
-use Rattle.matching.specs.Laws.Amounts.{Named}
-use Rattle.matching.specs.Laws.Sets.{in_all, gap_fits}
-use Rattle.matching.specs.Laws.Both.{of_all, of_in, of_unique}
-use Rattle.matching.specs.Theorems.Checked as checked
+use Rattle.matching.proofs.Laws.Amounts.{Named}
+use Rattle.matching.proofs.Laws.Sets.{in_all, gap_fits}
+use Rattle.matching.proofs.Laws.Both.{of_all, of_in, of_unique}
+use Rattle.matching.proofs.Theorems.Checked as checked
 use Rattle.stability.specs.Links.{key_of}
 use Rattle.stability.specs.Blocking.{Stable}
 use Rattle.stability.specs.Limits.{Limited, limited, unlimited, Held}

@@ -6,7 +6,7 @@ use Rattle.std.proofs.Math.Decide.{ℕ_discrete}
 use Rattle.std.proofs.lemmas.List.{length-replicate, get_or-replicate}
 use Rattle.matching.specs.Definitions.Lists.{sum_over}
 use Rattle.matching.specs.Definitions.Columns.{tabulate}
-use Rattle.matching.specs.Laws.Columns.{tabulate-length, tabulate_get}
+use Rattle.matching.proofs.Laws.Columns.{tabulate-length, tabulate_get}
 use Rattle.tables.specs.Definitions.Sizes.{band_count}
 use Rattle.tables.specs.Definitions.Bands.{binary_digits}
 

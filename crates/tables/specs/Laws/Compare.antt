@@ -9,7 +9,7 @@ use Rattle.std.proofs.Math.ListN.{get_or}
 use borrow.Author.Tests.{eq-eqb, eqb-true, not-false}
 use Rattle.matching.specs.Definitions.Links.{Link, same_link, common}
 use Rattle.matching.specs.Definitions.Columns.{tabulate}
-use Rattle.matching.specs.Laws.Common.{same_link_lem, link_same}
+use Rattle.matching.proofs.Laws.Common.{same_link_lem, link_same}
 use Rattle.tables.specs.declared.compare.Difference.{Difference}
 use Rattle.tables.specs.declared.compare.Difference.TheVariants.{None, Row}
 use Rattle.tables.specs.Definitions.Sizes.{number_size, distance_size, amount_size, link_b, link_distance, link_amount, link_size, link_rows, list_size}

@@ -3,7 +3,7 @@ use Rattle.std.specs.Prelude.{ℕ, zero, suc, ◌+◌, ◌*◌, ◌-◌, ◌/◌
 use Rattle.std.proofs.Common.{sym, ◌∙◌, ap, ap₂, arith, length-drop, take-add, drop-drop, lt-ltb, le-ltb}
 use Rattle.std.proofs.Math.Nat.{pow-succ'}
 use Rattle.matching.specs.Definitions.Nodes.{Node}
-use Rattle.matching.specs.Laws.Lists.{all_append}
+use Rattle.matching.proofs.Laws.Lists.{all_append}
 use Rattle.tables.specs.Definitions.Sizes.{capacity_size, byte_end, farthest, most, most_sort}
 use Rattle.tables.specs.Definitions.Fields.{Bytes, nat_at, nat_bytes, signed, unsigned}
 use Rattle.tables.specs.Definitions.Tables.{capacity_in, sort_in, field_of}

@@ -4,7 +4,7 @@ use Rattle.std.proofs.Common.{sym, ◌∙◌, ap, ap₂, append_assoc, mul-suc, 
 use Rattle.std.proofs.Math.Option.{none, some}
 use Rattle.std.proofs.Math.Decide.{ℕ_discrete}
 use Rattle.std.proofs.Math.Seq.{take-append-add, drop-append-add}
-pub use Rattle.matching.specs.Laws.Common.{and_split}
+pub use Rattle.matching.proofs.Laws.Common.{and_split}
 use Rattle.tables.specs.Definitions.Rows.{flat, put, first_from, all_from}
 
 pub or_split : (s t : Bool) → (s || t) ≡ false → (s ≡ false) × (t ≡ false)

@@ -10,7 +10,7 @@ use Rattle.std.proofs.Math.ListN.{length}
 use Rattle.std.proofs.lemmas.List.{length-replicate}
 use Rattle.std.proofs.Math.Seq.{drop-append-add}
 use Rattle.matching.specs.Definitions.Lists.{All}
-use Rattle.matching.specs.Laws.Lists.{all_append}
+use Rattle.matching.proofs.Laws.Lists.{all_append}
 use Rattle.tables.specs.Definitions.Fields.{Bytes, nat_at}
 use Rattle.tables.specs.Definitions.Rows.{flat, padded}
 use Rattle.tables.specs.Laws.Fields.{nat_drop, nat_zeros}

@@ -8,7 +8,7 @@ use Rattle.matching.specs.Definitions.Lists.{Reordered, same, swap, skip, then}
 use Rattle.matching.specs.Definitions.Nodes.{Node, Absent}
 use Rattle.matching.specs.Definitions.Edits.{depart}
 use Rattle.matching.specs.Definitions.Columns.{tabulate}
-use Rattle.matching.specs.Laws.Columns.{tabulate_all, tabulate_cong, tabulate_snoc, tabulate_split}
+use Rattle.matching.proofs.Laws.Columns.{tabulate_all, tabulate_cong, tabulate_snoc, tabulate_split}
 use Rattle.update.specs.Departures.{depart_absent, depart_at}
 
 -- The other way round, behind some nodes, and with one of them put first.

@@ -17,14 +17,14 @@ use Rattle.matching.specs.Definitions.Edits.{depart}
 use Rattle.matching.specs.Definitions.Columns.{tabulate}
 use Rattle.matching.specs.Definitions.Rows.{range, spans_of, node_in}
 use Rattle.matching.specs.Definitions.Sizes.{node_rows, set_rows}
-use Rattle.matching.specs.Laws.Lists.{all_map, all_in, all_at}
-use Rattle.matching.specs.Laws.Sorts.{all_of_sort, in_sort, of_sort_lem}
-use Rattle.matching.specs.Laws.Amounts.{same_node}
-use Rattle.matching.specs.Laws.Parts.{has_node}
-use Rattle.matching.specs.Laws.Split.{Split, split}
+use Rattle.matching.proofs.Laws.Lists.{all_map, all_in, all_at}
+use Rattle.matching.proofs.Laws.Sorts.{all_of_sort, in_sort, of_sort_lem}
+use Rattle.matching.proofs.Laws.Amounts.{same_node}
+use Rattle.matching.proofs.Laws.Parts.{has_node}
+use Rattle.matching.proofs.Laws.Split.{Split, split}
 use Rattle.tables.specs.Definitions.Sizes.{node_size}
 use Rattle.tables.specs.Definitions.Tables.{node_from, nodes_in}
-use Rattle.tables.specs.Laws.Edited.{has_none}
+use Rattle.tables.proofs.Laws.Edited.{has_none}
 use Rattle.tables.specs.Laws.Find.{RowOf}
 use Rattle.tables.specs.Laws.Nodes.{rows_at}
 use Rattle.stability.specs.Barred.{Patched, fresh, moved}

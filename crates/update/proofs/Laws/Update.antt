@@ -14,8 +14,8 @@ use Rattle.matching.specs.Definitions.Nodes.{Master, master_a, master_b, other, 
 use Rattle.matching.specs.Definitions.Columns.{tabulate}
 use Rattle.matching.specs.Definitions.Rows.{range, size, spans_of, On, Spanned, node_in, nodes_on}
 use Rattle.matching.specs.Definitions.Sizes.{half, node_rows, link_rows, set_rows}
-use Rattle.matching.specs.Laws.Columns.{tabulate-length, tabulate_cong}
-use Rattle.matching.specs.Laws.Reordered.{reordered_length}
+use Rattle.matching.proofs.Laws.Columns.{tabulate-length, tabulate_cong}
+use Rattle.matching.proofs.Laws.Reordered.{reordered_length}
 use Rattle.tables.specs.Definitions.Sizes.{table_size}
 use Rattle.tables.specs.Definitions.Tables.{nodes_in}
 use Rattle.tables.specs.Definitions.Edits.{master_of, number_of}

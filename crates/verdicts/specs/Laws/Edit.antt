@@ -26,7 +26,7 @@ use Rattle.contract.specs.declared.Refusal.TheVariants.{Kind, Master, Field, Num
 use Rattle.contract.specs.Definitions.Buffers.{drawing}
 use Rattle.contract.specs.Definitions.Requests.{edit_shape}
 use Rattle.contract.specs.Definitions.Refusals.{given}
-use Rattle.contract.specs.Laws.Places.{own_answer}
+use Rattle.contract.proofs.Laws.Places.{own_answer}
 use Rattle.verdicts.specs.Edit.{place_answer, node_answer, master_answer, edit_answer, Applied, Changed, Performed}
 use Rattle.verdicts.specs.Laws.Answers.{Among, refusals, done_is_none}
 

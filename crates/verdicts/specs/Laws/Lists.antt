@@ -10,7 +10,7 @@ use Rattle.matching.specs.Definitions.Links.{Link, same_link, common}
 use Rattle.matching.specs.Definitions.Join.{join}
 use Rattle.matching.specs.Definitions.Sizes.{link_rows}
 use Rattle.matching.specs.Definitions.Rows.{link_in, links_in, Joined}
-use Rattle.matching.specs.Laws.Columns.{tabulate-length}
+use Rattle.matching.proofs.Laws.Columns.{tabulate-length}
 use Rattle.tables.specs.Definitions.Sizes.{list_size}
 use Rattle.tables.specs.Definitions.Fields.{Bytes}
 use Rattle.tables.specs.Definitions.Lists.{list_bytes, links_in as links_among, first_difference, differs, zero_from}

@@ -3,7 +3,7 @@ use mathlib.Core.Path.{◌≡◌, refl, ◌∙◌}
 use native.Mathlib.Omega.{arith}
 use Rattle.matching.specs.Definitions.Columns.{tabulate}
 use Rattle.matching.specs.Definitions.Rows.{links_in}
-use Rattle.matching.specs.Theorems.Mutual.{puts}
+use Rattle.matching.proofs.Theorems.Mutual.{puts}
 use Rattle.closest.specs.Chain.{whole}
 use Rattle.closest.proofs.Laws.Step.{good_start}
 use Rattle.closest.proofs.picks.run.Goals as goal

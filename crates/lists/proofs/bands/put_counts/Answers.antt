@@ -4,7 +4,7 @@ use native.Mathlib.Omega.{arith}
 use Rattle.tables.specs.Definitions.Sizes.{count_size}
 use Rattle.tables.specs.Definitions.Fields.{nat_bytes}
 use Rattle.tables.specs.Laws.Fields.{nat_length}
-use Rattle.tables.specs.Laws.Puts.{row_start, row_turn, row_end}
+use Rattle.tables.proofs.Laws.Puts.{row_start, row_turn, row_end}
 use Rattle.lists.proofs.bands.put_counts.Goals as goal
 
 pub loop-k-init : goal.loop-k-init

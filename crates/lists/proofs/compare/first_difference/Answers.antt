@@ -2,7 +2,7 @@ use mathlib.Core.Path.{refl, sym, ◌∙◌}
 use native.Mathlib.Omega.{arith}
 use Rattle.matching.specs.Definitions.Sizes.{link_rows}
 use Rattle.tables.specs.Definitions.Lists.{first_difference}
-use Rattle.tables.specs.Laws.Search.{first_here, first_on, first_done}
+use Rattle.tables.proofs.Laws.Search.{first_here, first_on, first_done}
 use Rattle.lists.proofs.compare.first_difference.Goals as goal
 
 pub loop-row-init : goal.loop-row-init

@@ -6,7 +6,7 @@ use Rattle.matching.specs.Definitions.Rows.{link_of}
 use Rattle.tables.specs.Definitions.Sizes.{number_size, distance_size, amount_size, link_b, link_distance, link_amount}
 use Rattle.tables.specs.Definitions.Fields.{nat_bytes}
 use Rattle.tables.specs.Definitions.Rows.{put}
-use Rattle.tables.specs.Laws.ListCode.{link_put}
+use Rattle.tables.proofs.Laws.ListCode.{link_put}
 use Rattle.lists.proofs.rows.put_row.Goals as goal
 
 pub returns : goal.returns

@@ -4,7 +4,7 @@ use native.Mathlib.Omega.{arith}
 use Rattle.matching.specs.Definitions.Rows.{link_in}
 use Rattle.tables.specs.Definitions.Sizes.{link_size}
 use Rattle.tables.specs.Definitions.Rows.{put}
-use Rattle.tables.specs.Laws.ListCode.{rows_from, row_more, rows_done}
+use Rattle.tables.proofs.Laws.ListCode.{rows_from, row_more, rows_done}
 use Rattle.lists.proofs.rows.put_rows.Goals as goal
 
 pub loop-k-init : goal.loop-k-init

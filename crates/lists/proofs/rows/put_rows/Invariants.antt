@@ -5,7 +5,7 @@ use lib.ListN.{length}
 use Rattle.matching.specs.Definitions.Rows.{link_in}
 use Rattle.tables.specs.Definitions.Sizes.{link_size}
 use Rattle.tables.specs.Definitions.Rows.{put}
-use Rattle.tables.specs.Laws.ListCode.{rows_from}
+use Rattle.tables.proofs.Laws.ListCode.{rows_from}
 use Rattle.lists.proofs.rows.put_rows.Given as goal
 
 abbrev pub invariant-loop-k : goal.invariant-loop-k

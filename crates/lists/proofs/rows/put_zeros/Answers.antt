@@ -1,7 +1,7 @@
 use mathlib.Core.Path.{refl}
 use native.Mathlib.Omega.{arith}
 use lib.ListN.{length-set}
-use Rattle.tables.specs.Laws.ListCode.{zero_more, zeros_done}
+use Rattle.tables.proofs.Laws.ListCode.{zero_more, zeros_done}
 use Rattle.lists.proofs.rows.put_zeros.Goals as goal
 
 pub loop-i-init : goal.loop-i-init

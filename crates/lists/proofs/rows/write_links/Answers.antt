@@ -1,7 +1,7 @@
 -- The rows, and the zeros behind them.
 use mathlib.Core.Path.{◌∙◌}
 use Rattle.matching.specs.Definitions.Rows.{link_in, links_in}
-use Rattle.tables.specs.Laws.ListCode.{rows_zeros}
+use Rattle.tables.proofs.Laws.ListCode.{rows_zeros}
 use Rattle.lists.proofs.rows.write_links.Goals as goal
 
 pub returns : goal.returns

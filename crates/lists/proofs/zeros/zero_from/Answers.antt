@@ -6,7 +6,7 @@ use lib.Dec.{eqb}
 use Rattle.tables.specs.Definitions.Sizes.{list_size}
 use Rattle.tables.specs.Definitions.Rows.{all_from}
 use Rattle.tables.specs.Definitions.Lists.{zero_from}
-use Rattle.tables.specs.Laws.Search.{all_done}
+use Rattle.tables.proofs.Laws.Search.{all_done}
 use Rattle.lists.proofs.Laws.Zeros.{all_next}
 use Rattle.lists.proofs.zeros.zero_from.Invariants.{zero}
 use Rattle.lists.proofs.zeros.zero_from.Goals as goal

@@ -1,5 +1,5 @@
 use native.Mathlib.Omega.{arith}
-use Rattle.matching.specs.Laws.Loops.{from_start, from_more}
+use Rattle.matching.proofs.Laws.Loops.{from_start, from_more}
 use Rattle.load.proofs.fault.rows_zero.Goals as goal
 
 pub loop-k-init : goal.loop-k-init

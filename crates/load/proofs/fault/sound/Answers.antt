@@ -8,7 +8,7 @@ use borrow.Author.Rules.{rules}
 use Rattle.matching.specs.Definitions.Rows.{size}
 use Rattle.tables.specs.Definitions.Tables.{nodes_in, fields_good}
 use Rattle.tables.specs.Definitions.Sizes.{node_size}
-use Rattle.tables.specs.Laws.Accepted.{room}
+use Rattle.tables.proofs.Laws.Accepted.{room}
 use Rattle.load.specs.Laws.Sound.{faultless, no_more, sorts_good}
 use Rattle.load.proofs.fault.sound.Goals as goal
 

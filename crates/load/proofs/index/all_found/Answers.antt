@@ -1,7 +1,7 @@
 use mathlib.Core.Path.{◌∙◌, sym}
 use mathlib.Core.Bool.{false≢true}
 use native.Mathlib.Omega.{arith}
-use Rattle.matching.specs.Laws.Loops.{from_start, from_more}
+use Rattle.matching.proofs.Laws.Loops.{from_start, from_more}
 use Rattle.load.proofs.index.all_found.Goals as goal
 
 pub loop-i-init : goal.loop-i-init

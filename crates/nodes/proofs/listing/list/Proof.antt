@@ -4,7 +4,7 @@ use native.Mathlib.Omega.{arith}
 use lib.ListN.{length, take, drop}
 use Rattle.tables.specs.Definitions.Sizes.{number_size}
 use Rattle.tables.specs.Definitions.Rows.{flat}
-use Rattle.tables.specs.Laws.Puts.{part_from}
+use Rattle.tables.proofs.Laws.Puts.{part_from}
 use Rattle.player.specs.Laws.Text.{written_then, written_as}
 use Rattle.reader.specs.Definitions.{numbered, readable}
 use Rattle.nodes.specs.Definitions.{node_line, answer_line}

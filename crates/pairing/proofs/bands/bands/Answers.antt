@@ -3,7 +3,7 @@ use mathlib.Core.Path.{refl}
 use borrow.Author.Tests.{eq-eqb, ne_eqb}
 use Rattle.contract.specs.declared.Refusal.TheVariants.{Unfinished}
 use Rattle.contract.specs.Definitions.Requests.{bands}
-use Rattle.contract.specs.Laws.Places.{tried}
+use Rattle.contract.proofs.Laws.Places.{tried}
 use Rattle.pairing.specs.Verdicts.{Finished}
 use Rattle.pairing.specs.Laws.Verdicts.{list_links}
 use Rattle.pairing.specs.Laws.Calls.{own_call, list-call, bands_call_lem}

@@ -9,8 +9,8 @@ use Rattle.matching.specs.Definitions.Nodes.{master_a, master_b}
 use Rattle.contract.specs.declared.Answer.TheVariants.{Refused}
 use Rattle.contract.specs.declared.Refusal.TheVariants.{Length, TableB}
 use Rattle.contract.specs.Definitions.Requests.{edit}
-use Rattle.contract.specs.Laws.Conditions.{stated}
-use Rattle.contract.specs.Laws.Places.{tried}
+use Rattle.contract.proofs.Laws.Conditions.{stated}
+use Rattle.contract.proofs.Laws.Places.{tried}
 use Rattle.load.specs.Laws.Represents.{loaded_named}
 use Rattle.pairing.specs.Laws.Verdicts.{tables_length, tables_judged}
 use Rattle.pairing.specs.Laws.Calls.{own_call, tables_call}

@@ -8,7 +8,7 @@ use Rattle.matching.specs.Definitions.Links.{Link}
 use Rattle.tables.specs.Laws.ListRead.{bytes_known}
 use Rattle.contract.specs.declared.Refusal.TheVariants.{Unfinished}
 use Rattle.contract.specs.Definitions.Requests.{edit}
-use Rattle.contract.specs.Laws.Places.{tried}
+use Rattle.contract.proofs.Laws.Places.{tried}
 use Rattle.verdicts.specs.Lists.{list_answer}
 use Rattle.pairing.specs.Verdicts.{ListJudged}
 use Rattle.pairing.specs.Laws.Verdicts.{set_beside, set_links, set_joined, list_judged, list_links}

@@ -9,7 +9,7 @@ use Rattle.matching.specs.Definitions.Links.{Link}
 use Rattle.tables.specs.Laws.ListRead.{bytes_known}
 use Rattle.contract.specs.declared.Answer.TheVariants.{Refused}
 use Rattle.contract.specs.declared.Refusal.TheVariants.{Length}
-use Rattle.contract.specs.Laws.Conditions.{stated}
+use Rattle.contract.proofs.Laws.Conditions.{stated}
 use Rattle.load.specs.Laws.Represents.{loaded_named}
 use Rattle.verdicts.specs.Lists.{list_answer}
 use Rattle.pairing.specs.Laws.Verdicts.{tables_length, tables_judged, list_refused, set_beside, set_links, set_joined, list_judged}

@@ -10,8 +10,8 @@ use Rattle.tables.specs.Laws.ListRead.{bytes_known}
 use Rattle.contract.specs.declared.Answer.TheVariants.{Refused}
 use Rattle.contract.specs.declared.Refusal.TheVariants.{Length, TableB}
 use Rattle.contract.specs.Definitions.Requests.{pair}
-use Rattle.contract.specs.Laws.Conditions.{stated}
-use Rattle.contract.specs.Laws.Places.{tried}
+use Rattle.contract.proofs.Laws.Conditions.{stated}
+use Rattle.contract.proofs.Laws.Places.{tried}
 use Rattle.load.specs.Laws.Represents.{loaded_named}
 use Rattle.pairing.specs.Laws.Verdicts.{tables_length, tables_judged, set_join}
 use Rattle.pairing.specs.Laws.Calls.{tables_call, pair_call_lem}

@@ -1,7 +1,7 @@
 -- The first faulty row of A, then of B.
 use mathlib.Core.Path.{sym, ◌∙◌}
 use Rattle.tables.specs.Definitions.Tables.{first_fault}
-use Rattle.tables.specs.Laws.Faults.{fault_row, fault_none}
+use Rattle.tables.proofs.Laws.Faults.{fault_row, fault_none}
 use Rattle.pairing.proofs.soundness.judge.Goals as goal
 
 pub returns-in-Row : goal.returns-in-Row

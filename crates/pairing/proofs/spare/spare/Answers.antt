@@ -3,7 +3,7 @@ use mathlib.Core.Path.{refl}
 use native.Mathlib.Omega.{arith}
 use Rattle.contract.specs.declared.Refusal.TheVariants.{Unfinished}
 use Rattle.contract.specs.Definitions.Requests.{spare}
-use Rattle.contract.specs.Laws.Places.{tried}
+use Rattle.contract.proofs.Laws.Places.{tried}
 use Rattle.pairing.specs.Verdicts.{Finished}
 use Rattle.pairing.specs.Laws.Verdicts.{list_links}
 use Rattle.pairing.specs.Laws.Calls.{list-call}

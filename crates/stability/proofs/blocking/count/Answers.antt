@@ -7,8 +7,8 @@ use lib.IntN.{pos}
 use lib.ListN.{get_or}
 use Rattle.matching.specs.Definitions.Pairs.{squared_distance}
 use Rattle.matching.specs.Definitions.Rows.{across, upward, key}
-use Rattle.matching.specs.Laws.Distance.{inside_reach, distance_fits}
-use Rattle.matching.specs.Laws.Sets.{inside_back}
+use Rattle.matching.proofs.Laws.Distance.{inside_reach, distance_fits}
+use Rattle.matching.proofs.Laws.Sets.{inside_back}
 use Rattle.stability.proofs.Laws.Lanes.{key_split}
 use Rattle.stability.proofs.blocking.count.Goals as goal
 use Rattle.stability.proofs.blocking.count.Goals.{After-squared_distance-d}

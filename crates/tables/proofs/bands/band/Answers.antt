@@ -1,7 +1,7 @@
 -- Leading zeros and digits make 32.
 use native.Mathlib.Omega.{arith}
 use lib.Count.{leading_le}
-use Rattle.tables.specs.Laws.Digits.{digits_width}
+use Rattle.tables.proofs.Laws.Digits.{digits_width}
 use Rattle.tables.proofs.bands.band.Goals as goal
 
 pub overflow_sub-result : goal.overflow_sub-result

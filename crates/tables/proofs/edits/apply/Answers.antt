@@ -8,7 +8,7 @@ use Rattle.tables.specs.declared.edits.Change.TheVariants.{Arrival, Departure, M
 use Rattle.tables.specs.Definitions.Sizes.{position_size, node_x, node_capacity, node_size, edit_number, edit_x, edit_capacity}
 use Rattle.tables.specs.Definitions.Rows.{put}
 use Rattle.tables.specs.Definitions.Edits.{closed}
-use Rattle.tables.specs.Laws.Puts.{part_from}
+use Rattle.tables.proofs.Laws.Puts.{part_from}
 use Rattle.tables.specs.Laws.Changes.{stays, table_change}
 use Rattle.tables.proofs.edits.apply.Goals as goal
 

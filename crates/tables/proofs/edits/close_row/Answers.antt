@@ -3,7 +3,7 @@ use mathlib.Core.Path.{◌≡◌, refl, sym, ◌∙◌, ap}
 use native.Mathlib.Omega.{arith}
 use lib.ListN.{length-set}
 use Rattle.tables.specs.Definitions.Sizes.{node_size, table_size}
-use Rattle.tables.specs.Laws.Puts.{closing, close_start, close_turn, close_end}
+use Rattle.tables.proofs.Laws.Puts.{closing, close_start, close_turn, close_end}
 use Rattle.tables.proofs.edits.close_row.Goals as goal
 
 pub loop-i-init : goal.loop-i-init

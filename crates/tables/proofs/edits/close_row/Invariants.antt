@@ -3,7 +3,7 @@ use Prim.Native.Nat.{◌≤◌, ◌-◌}
 use mathlib.Core.Path.{◌≡◌}
 use lib.ListN.{length}
 use Rattle.tables.specs.Definitions.Edits.{closed}
-use Rattle.tables.specs.Laws.Puts.{closing}
+use Rattle.tables.proofs.Laws.Puts.{closing}
 use Rattle.tables.proofs.edits.close_row.Given as goal
 
 abbrev pub invariant-loop-i : goal.invariant-loop-i

@@ -2,7 +2,7 @@ use mathlib.Core.Path.{refl, sym, ◌∙◌}
 use native.Mathlib.Nat.{add-zero}
 use native.Mathlib.Omega.{arith}
 use lib.ListN.{length-set}
-use Rattle.tables.specs.Laws.Puts.{byte_turn, byte_end}
+use Rattle.tables.proofs.Laws.Puts.{byte_turn, byte_end}
 use Rattle.tables.proofs.edits.copy_at.Goals as goal
 
 pub loop-j-init : goal.loop-j-init

@@ -3,7 +3,7 @@ use native.Mathlib.Omega.{arith}
 use Rattle.tables.specs.Definitions.Sizes.{node_rows}
 use Rattle.tables.specs.Definitions.Tables.{first_fault}
 use Rattle.tables.specs.Definitions.Code.{fault_of}
-use Rattle.tables.specs.Laws.Search.{first_here, first_on, first_done}
+use Rattle.tables.proofs.Laws.Search.{first_here, first_on, first_done}
 use Rattle.tables.proofs.faults.first_fault.Goals as goal
 
 pub loop-k-init : goal.loop-k-init

@@ -2,7 +2,7 @@
 use mathlib.Core.Path.{sym, ◌∙◌, ap}
 use mathlib.Core.Bool.{not}
 use Rattle.tables.specs.Definitions.Tables.{stands_before}
-use Rattle.tables.specs.Laws.Faults.{faulty_zero, faulty_field, faulty_twice, faulty_gap}
+use Rattle.tables.proofs.Laws.Faults.{faulty_zero, faulty_field, faulty_twice, faulty_gap}
 use Rattle.tables.proofs.faults.row_faulty.Goals as goal
 
 pub returns-then-n-eq0 : goal.returns-then-n-eq0

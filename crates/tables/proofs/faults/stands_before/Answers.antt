@@ -1,6 +1,6 @@
 use mathlib.Core.Path.{refl, sym, ◌∙◌}
 use native.Mathlib.Omega.{arith}
-use Rattle.tables.specs.Laws.Faults.{stands_none, stands_here, stands_on}
+use Rattle.tables.proofs.Laws.Faults.{stands_none, stands_here, stands_on}
 use Rattle.tables.proofs.faults.stands_before.Goals as goal
 
 pub loop-j-init : goal.loop-j-init

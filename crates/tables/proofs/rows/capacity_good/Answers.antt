@@ -1,5 +1,5 @@
 -- The two limits of the capacity and that of the sort, one after the other.
-use Rattle.tables.specs.Laws.Ranges.{capacity_low, capacity_high, capacity_sort}
+use Rattle.tables.proofs.Laws.Ranges.{capacity_low, capacity_high, capacity_sort}
 use Rattle.tables.proofs.rows.capacity_good.Goals as goal
 
 pub returns-then-field-lt1 : goal.returns-then-field-lt1

@@ -1,6 +1,6 @@
 -- The two limits, one after the other.
 use mir.Facts.{to_z-of_z}
-use Rattle.tables.specs.Laws.Ranges.{position_low, position_high}
+use Rattle.tables.proofs.Laws.Ranges.{position_low, position_high}
 use Rattle.tables.proofs.rows.position_good.Goals as goal
 
 pub returns-then-p : goal.returns-then-p

@@ -1,6 +1,6 @@
 -- A row is where the number is, or it joins the rows passed.
 use native.Mathlib.Omega.{arith}
-use Rattle.matching.specs.Laws.Loops.{from_start, from_more}
+use Rattle.matching.proofs.Laws.Loops.{from_start, from_more}
 use Rattle.update.proofs.rows.find.Goals as goal
 
 pub loop-k-init : goal.loop-k-init

@@ -5,7 +5,7 @@ use mathlib.Core.List.{◌++◌}
 use native.Mathlib.Omega.{arith}
 use lib.ListN.{take}
 use Rattle.tables.specs.Definitions.Sizes.{link_size}
-use Rattle.tables.specs.Laws.ListCode.{tail_back}
+use Rattle.tables.proofs.Laws.ListCode.{tail_back}
 use Rattle.verdicts.proofs.write.write_rows.Goals as goal
 
 pub returns : goal.returns
