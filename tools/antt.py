@@ -6,6 +6,13 @@ import sys
 sys.dont_write_bytecode = True
 ROOT = pathlib.Path(__file__).resolve().parent.parent
 CRATES = ROOT / "crates"
+
+
+def sources(kind):
+    """The files of a kind in the crates, but for what a check leaves in out/."""
+    return sorted(path for path in CRATES.rglob("*." + kind) if path.relative_to(CRATES).parts[1] != "out")
+
+
 NAME = r'[^\s(){}.;,@"«»]+'
 HEAD = re.compile(rf"(?:(abbrev|unfoldable) )?(pub )?(?:(record|data) ({NAME})|({NAME}) :(?= |$))")
 MODULE = re.compile(r"(?:pub )?(?:module|mutual)\b")
@@ -21,7 +28,12 @@ def cited(text):
 
 def parts(name):
     """The words by which a name is cited: itself, and those of an operator."""
-    return [name] + [part for part in name.split("_") if part and part != name]
+    return [name] + [part for part in name.split("◌") if part and part != name]
+
+
+def of_function(path):
+    """Whether a file is of the proof of one function, and so in the folder of its name."""
+    return path.name in ("Invariants.antt", "Answers.antt", "Proof.antt") and "proofs" in path.parts and path.parent.name != "Laws"
 
 
 class Declaration:
@@ -39,7 +51,7 @@ class File:
 
     def __init__(self, path):
         self.path, self.words, self.declarations = path, [], []
-        self.laws = path.suffix == ".antt" and path.name != "Proof.antt"
+        self.laws = path.suffix == ".antt" and not of_function(path)
         self.names, self.modules = {}, {}  # what is imported: word -> (module, name), word -> module
         comment = r"(^|\s)//.*" if path.suffix == ".rt" else r"(^|\s)--(\s.*)?$"
         modules, inside, level = [], None, 0  # open modules, each with its level and words; the open declaration

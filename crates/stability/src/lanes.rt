@@ -33,10 +33,10 @@ pub fn fill(
     cf: &mut [u32],
     ch: &mut [u32],
 )
-    requires from_lt_to { (r.from < r.to) × (r.to ≤ set_rows) × (length ns.now ≡ set_rows)
+    requires in_set { (r.from < r.to) × (r.to ≤ set_rows) × (length ns.now ≡ set_rows)
         × (length at.now ≡ set_rows) × (length limits.now ≡ set_rows) }
     requires sized { Sized cn.old cx.old cy.old cf.old ch.old }
-    ensures sized_2 { Sized cn.new cx.new cy.new cf.new ch.new }
+    ensures still_sized { Sized cn.new cx.new cy.new cf.new ch.new }
     ensures lanes { Lanes ns.now at.now limits.now r
         cn.new cx.new cy.new cf.new ch.new block_rows }
 {

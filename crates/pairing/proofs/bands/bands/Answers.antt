@@ -7,7 +7,7 @@ use Rattle.contract.proofs.Laws.Places.{tried}
 use Rattle.pairing.specs.Verdicts.{Finished}
 use Rattle.pairing.specs.Laws.Verdicts.{list_links}
 use Rattle.pairing.specs.Laws.Calls.{own_call, list-call, bands_call_lem}
-use Rattle.pairing.proofs.Laws.Answers.{is_refused}
+use Rattle.verdicts.proofs.Laws.Answers.{is_refused}
 use Rattle.pairing.proofs.bands.bands.Goals as goal
 use Rattle.pairing.proofs.bands.bands.Goals.{In-Done}
 

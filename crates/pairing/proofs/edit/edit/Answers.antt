@@ -15,7 +15,7 @@ use Rattle.load.specs.Laws.Represents.{loaded_named}
 use Rattle.pairing.specs.Laws.Verdicts.{tables_length, tables_judged}
 use Rattle.pairing.specs.Laws.Calls.{own_call, tables_call}
 use Rattle.pairing.specs.Laws.Sets.{both_sound, list_size_lem}
-use Rattle.pairing.proofs.Laws.Answers.{is_done, is_refused}
+use Rattle.verdicts.proofs.Laws.Answers.{is_done, is_refused}
 use Rattle.pairing.proofs.edit.edit.Goals as goal
 
 pub returns-then-edit-ne-EDIT : goal.returns-then-edit-ne-EDIT

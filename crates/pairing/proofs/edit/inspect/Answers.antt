@@ -15,7 +15,7 @@ use Rattle.pairing.specs.Laws.Verdicts.{set_beside, set_links, set_joined, list_
 use Rattle.pairing.specs.Laws.Calls.{list-call}
 use Rattle.pairing.specs.Laws.Sets.{no_limits, sound_represents, edited_set}
 use Rattle.pairing.specs.Laws.Edited.{performed_done, edit_refused, unrefused, edit_passed, changed_sound, performed}
-use Rattle.pairing.proofs.Laws.Answers.{is_done, is_refused}
+use Rattle.verdicts.proofs.Laws.Answers.{is_done, is_refused}
 use Rattle.pairing.proofs.edit.inspect.Goals as goal
 use Rattle.pairing.proofs.edit.inspect.Goals.{After-examine-answer}
 

@@ -14,7 +14,7 @@ use Rattle.load.specs.Laws.Represents.{loaded_named}
 use Rattle.verdicts.specs.Lists.{list_answer}
 use Rattle.pairing.specs.Laws.Verdicts.{tables_length, tables_judged, list_refused, set_beside, set_links, set_joined, list_judged}
 use Rattle.pairing.specs.Laws.Sets.{no_limits, both_sound, list_size_lem, sound_represents}
-use Rattle.pairing.proofs.Laws.Answers.{is_done, is_refused}
+use Rattle.verdicts.proofs.Laws.Answers.{is_done, is_refused}
 use Rattle.pairing.proofs.list.judge_all.Goals as goal
 
 pub returns-then-not-lengths_right : goal.returns-then-not-lengths_right

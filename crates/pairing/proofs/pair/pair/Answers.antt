@@ -16,7 +16,7 @@ use Rattle.load.specs.Laws.Represents.{loaded_named}
 use Rattle.pairing.specs.Laws.Verdicts.{tables_length, tables_judged, set_join}
 use Rattle.pairing.specs.Laws.Calls.{tables_call, pair_call_lem}
 use Rattle.pairing.specs.Laws.Sets.{both_sound, list_size_lem, sound_represents}
-use Rattle.pairing.proofs.Laws.Answers.{is_done, is_refused}
+use Rattle.verdicts.proofs.Laws.Answers.{is_done, is_refused}
 use Rattle.pairing.proofs.pair.pair.Goals as goal
 
 pub returns-then-not-lengths_right : goal.returns-then-not-lengths_right

@@ -8,7 +8,7 @@ use Rattle.pairing.specs.Verdicts.{Finished}
 use Rattle.pairing.specs.Laws.Verdicts.{list_links}
 use Rattle.pairing.specs.Laws.Calls.{list-call}
 use Rattle.pairing.specs.Laws.Spare.{spare_call_lem}
-use Rattle.pairing.proofs.Laws.Answers.{is_refused}
+use Rattle.verdicts.proofs.Laws.Answers.{is_refused}
 use Rattle.pairing.proofs.spare.spare.Goals as goal
 use Rattle.pairing.proofs.spare.spare.Goals.{In-Done}
 

@@ -7,7 +7,7 @@ use Rattle.contract.specs.declared.Refusal.{Refusal}
 use Rattle.pairing.specs.Verdicts.{Leading, ListJudged}
 use Rattle.pairing.specs.Laws.Verdicts.{list_done, list_early}
 use Rattle.pairing.specs.Laws.Calls.{step_none, step_refused, step_call_lem, due}
-use Rattle.pairing.proofs.Laws.Answers.{is_done, is_unlike}
+use Rattle.verdicts.proofs.Laws.Answers.{is_done, is_unlike}
 use Rattle.pairing.proofs.step.step.Goals as goal
 use Rattle.pairing.proofs.step.step.Goals.{In-Unfinished}
 

@@ -25,4 +25,4 @@ loop-k-preserved c =
     )
 
 pub returns : goal.returns
-returns c = record { sized_2 = c.loop-k.invariant.0; lanes = λ k h. c.loop-k.invariant.1 k (omega arith) }
+returns c = record { still_sized = c.loop-k.invariant.0; lanes = λ k h. c.loop-k.invariant.1 k (omega arith) }

@@ -1,15 +1,13 @@
 -- The number and the fields, its place, and the change applied.
 use Prim.Native.Nat.{ℕ}
-use mathlib.Core.List.{List, [], ◌∷◌}
+use mathlib.Core.List.{List}
 use mathlib.Core.Path.{◌≡◌, refl, sym, ◌∙◌, subst}
 use Rattle.tables.specs.Definitions.Tables.{nodes_in}
 use Rattle.tables.specs.Definitions.Edits.{number_of}
 use Rattle.tables.specs.Laws.Find.{RowOf}
-use Rattle.contract.specs.declared.Answer.{Answer}
-use Rattle.contract.specs.declared.Answer.TheVariants.{Done, Refused}
-use Rattle.verdicts.specs.Laws.Answers.{Among, refusals}
 use Rattle.verdicts.specs.Edit.{node_answer}
 use Rattle.verdicts.specs.Laws.Edit.{node_zero, node_fields, node_place, place_applies, applied_none, applied_done}
+use Rattle.verdicts.proofs.Laws.Answers.{is_done, is_refused}
 use Rattle.verdicts.proofs.perform.change_table.Goals as goal
 use Rattle.verdicts.proofs.perform.change_table.Goals.{After-judge_place-answer}
 
@@ -22,14 +20,6 @@ returns-then-not-fields_right c = (node_fields _ _ (λ z. c.if-number-eq0.false 
 -- The row is that of the edit's number.
 row_is : (t e : List ℕ) (n r : ℕ) → n ≡ number_of e → RowOf t n r → RowOf t (number_of e) r
 row_is t e n r i w = subst (λ (k : ℕ). RowOf t k r) i w
-
--- What the arms tell of an answer.
-is_done : (r : Answer) (v : ℕ) → r ≡ Done v → Among (0 ∷ []) r
-is_done r v i = subst (Among (0 ∷ [])) (sym i) refl
-
-is_refused : (r : Answer) → ((v : ℕ) → r ≡ Done v → ⊥) → Among refusals r
-is_refused (Done v) h = absurd (h v refl)
-is_refused (Refused p v) h = refl
 
 -- With a number and right fields only the place is left to refuse.
 judged : (c : After-judge_place-answer) → let x = c.args in c.judge_place-answer.result ≡ node_answer x.edit.now (nodes_in x.t.now)
