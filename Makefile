@@ -4,7 +4,7 @@
 # make bench         whole calls timed beside two peers in safe Rust; ONLY=edit picks the calls with that in their name
 # make worst         a search for the slowest edit, for SECONDS=n; it prints the edit and its drawing, and CASE=file times one again
 # make stack         the stack that each call uses at 512 x 512 nodes; fails at 128 KB
-# make edits         the must-fail edits that the gate leaves out for time
+# make edits         the must-fail edits alone
 # make fuzz          the calls beside the model on fresh seeds, for SECONDS=n (60)
 # make fuzz-guided   the same, led by the model's coverage (libFuzzer), for SECONDS=n
 # make install       archive, headers, CMake and pkg-config files to PREFIX (/usr/local), below DESTDIR
@@ -26,7 +26,7 @@ test:
 	@tools/gate
 
 run:
-	@tools/prove check replay
+	@tools/prove replay
 	@target/bin/replay <crates/replay/stdin
 
 proved:
@@ -54,9 +54,9 @@ fuzz: $(archive)
 	@FUZZ_SECONDS=$(SECONDS) cargo test --release --offline --manifest-path rust/differential/Cargo.toml --test calls fuzz -- --ignored --nocapture
 
 # What the archive is made of; a proof is part of it, since without one there is no archive.
-crates = $(addprefix crates/,$(shell tools/crates pairing))
-$(archive): $(shell find $(crates) -name '*.rt' -o -name '*.antt')
-	@tools/prove staticlib pairing
+crates = $(addprefix crates/,$(shell tools/crates pairing_c))
+$(archive): $(shell find $(crates) -name out -prune -o \( -name '*.rt' -o -name '*.antt' \) -print)
+	@tools/prove pairing_c
 
 into = $(DESTDIR)$(PREFIX)
 install: $(archive)

@@ -1,4 +1,4 @@
-//! Links the archive that `rt staticlib pairing` writes; tools/gate makes it before the tests run.
+//! Links the archive that `tools/prove pairing_c` writes; tools/gate makes it before the tests run.
 
 fn main() {
     let root = std::path::Path::new(env!("CARGO_MANIFEST_DIR")).join("../..");
