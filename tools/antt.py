@@ -22,7 +22,7 @@ WORD = re.compile(rf"(?<![^\s(){{}};,@])({NAME})((?:\.{NAME})*)")
 
 
 def cited(text):
-    """The words of a line but for labels (`name = `) and fields (` .name`), each with the one after its dot."""
+    """The words of a line but for labels (`name = `) and fields (`.name`), each with the one after its dot."""
     return [(word, rest[1:].split(".")[0]) for word, rest in WORD.findall(LABEL.sub(r"\1", text))]
 
 

@@ -13,7 +13,7 @@ use Rattle.tables.specs.Definitions.Rows.{flat}
 use Rattle.tables.specs.Laws.Rows.{flat_append}
 use Rattle.player.specs.Definitions.Text.{bytes, field, Written}
 use Rattle.player.specs.Definitions.Lines.{short_line}
-use Rattle.player.specs.Laws.Text.{written_none, written_then, written_as}
+use Rattle.player.proofs.Laws.Text.{written_none, written_then, written_as}
 use Rattle.reader.specs.Definitions.{nth, numbered, readable}
 use Rattle.nodes.specs.Definitions.{sign, position, node_line, answer_line, table_in, listing}
 

@@ -8,8 +8,8 @@ use Rattle.tables.specs.Definitions.Fields.{nat_at}
 use Rattle.tables.specs.Definitions.Rows.{flat}
 use Rattle.player.specs.Definitions.Text.{bytes}
 use Rattle.reader.specs.Definitions.{numbered}
-use Rattle.reader.specs.Laws.{unsound_length, numbered_empty}
-use Rattle.reader.specs.Theorems.{readable_none}
+use Rattle.reader.proofs.Laws.{unsound_length, numbered_empty}
+use Rattle.reader.proofs.Theorems.{readable_none}
 use Rattle.nodes.specs.Definitions.{node_line, answer_line, table_in, listing, input_room}
 use Rattle.nodes.specs.Laws.{whole}
 

@@ -2,8 +2,8 @@
 use native.Mathlib.Omega.{arith}
 use Rattle.player.specs.Definitions.Lines.{load_line}
 use Rattle.player.specs.Definitions.Transcript.{drawing, play_lines}
-use Rattle.player.specs.Laws.Text.{written_then, written_as}
-use Rattle.player.specs.Laws.Play.{load_stops, load_plays}
+use Rattle.player.proofs.Laws.Text.{written_then, written_as}
+use Rattle.player.proofs.Laws.Play.{load_stops, load_plays}
 use Rattle.player.proofs.load.Goals as goal
 
 pub returns-then-answer-ne0 : goal.returns-then-answer-ne0

@@ -4,8 +4,8 @@ use native.Mathlib.Omega.{arith}
 use lib.ListN.{take, drop, length-drop, replicate}
 use lib.Seq.{length-take-le}
 use Rattle.tables.specs.Definitions.Sizes.{table_size, list_size}
-use Rattle.player.specs.Laws.Text.{written_as}
-use Rattle.player.specs.Laws.Play.{input_short, input_whole, copied}
+use Rattle.player.proofs.Laws.Text.{written_as}
+use Rattle.player.proofs.Laws.Play.{input_short, input_whole, copied}
 use Rattle.tables.proofs.Laws.Puts.{part_from}
 use Rattle.player.specs.Definitions.Transcript.{tables_size, load_lines}
 use Rattle.player.proofs.replay.Goals as goal

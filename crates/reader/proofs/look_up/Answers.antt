@@ -4,7 +4,7 @@ use Prim.Native.Nat.{ℕ}
 use mathlib.Core.List.{List}
 use Rattle.std.proofs.Common.{Bor}
 use Rattle.reader.specs.Definitions.{node_of, found_of}
-use Rattle.reader.specs.Theorems.{find_first}
+use Rattle.reader.proofs.Theorems.{find_first}
 use Rattle.reader.proofs.look_up.Goals as goal
 
 pub returns : goal.returns

@@ -5,7 +5,7 @@ use mir.Facts.{to_z-of_z}
 use Rattle.tables.specs.Definitions.Tables.{node_from, row_number}
 use Rattle.reader.specs.declared.Found.TheVariants.{One}
 use Rattle.reader.specs.Definitions.{found_of}
-use Rattle.reader.specs.Laws.{node_length, node_behind, node_zero, node_there}
+use Rattle.reader.proofs.Laws.{node_length, node_behind, node_zero, node_there}
 use Rattle.reader.proofs.node_at.Goals as goal
 
 pub returns-then-t-ne-TABLE : goal.returns-then-t-ne-TABLE

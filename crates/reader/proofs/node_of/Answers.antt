@@ -1,7 +1,7 @@
 -- The node in the row that is found.
 use mathlib.Core.Path.{◌∙◌, ap}
 use Rattle.reader.specs.Definitions.{found_of}
-use Rattle.reader.specs.Laws.{of_length, of_refused, of_nodes, row_numbered}
+use Rattle.reader.proofs.Laws.{of_length, of_refused, of_nodes, row_numbered}
 use Rattle.reader.proofs.node_of.Goals as goal
 
 pub returns-then-t-ne-TABLE : goal.returns-then-t-ne-TABLE

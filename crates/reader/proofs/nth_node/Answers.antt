@@ -4,7 +4,7 @@ use Prim.Native.Nat.{ℕ}
 use mathlib.Core.List.{List}
 use Rattle.std.proofs.Common.{Bor}
 use Rattle.reader.specs.Definitions.{row_after, node_at, found_of}
-use Rattle.reader.specs.Theorems.{read_on}
+use Rattle.reader.proofs.Theorems.{read_on}
 use Rattle.reader.proofs.nth_node.Goals as goal
 
 pub returns : goal.returns

@@ -1,5 +1,5 @@
 -- A row behind the last stays; any other goes on, and stops at the end.
-use Rattle.reader.specs.Laws.{after_refused, after_read}
+use Rattle.reader.proofs.Laws.{after_refused, after_read}
 use mathlib.Core.Path.{sym}
 use native.Mathlib.Omega.{arith}
 use Rattle.reader.proofs.row_after.Goals as goal

@@ -1,6 +1,6 @@
 -- The verdict on the table, by cases.
 use mathlib.Core.Path.{sym, ◌∙◌}
-use Rattle.reader.specs.Laws.{unsound_length, sound_none, sound_row, start_refused, start_first}
+use Rattle.reader.proofs.Laws.{unsound_length, sound_none, sound_row, start_refused, start_first}
 use Rattle.reader.proofs.start.Goals as goal
 
 pub returns-then-t-ne-TABLE : goal.returns-then-t-ne-TABLE

@@ -5,7 +5,7 @@ use lib.ListN.{length, take, drop}
 use Rattle.tables.specs.Definitions.Sizes.{number_size}
 use Rattle.tables.specs.Definitions.Rows.{flat}
 use Rattle.tables.proofs.Laws.Puts.{part_from}
-use Rattle.player.specs.Laws.Text.{written_then, written_as}
+use Rattle.player.proofs.Laws.Text.{written_then, written_as}
 use Rattle.reader.specs.Definitions.{numbered, readable}
 use Rattle.nodes.specs.Definitions.{node_line, answer_line}
 use Rattle.nodes.specs.Laws.{listing_short, listing_whole}

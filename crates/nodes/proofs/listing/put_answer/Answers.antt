@@ -1,9 +1,9 @@
 -- The answer by cases.
 use mathlib.Core.Path.{sym, ◌∙◌, ap}
 use native.Mathlib.Omega.{arith}
-use Rattle.player.specs.Laws.Text.{written_as}
+use Rattle.player.proofs.Laws.Text.{written_as}
 use Rattle.reader.specs.Definitions.{numbered, readable}
-use Rattle.reader.specs.Laws.{found_one, found_nothing}
+use Rattle.reader.proofs.Laws.{found_one, found_nothing}
 use Rattle.nodes.specs.Definitions.{answer_line}
 use Rattle.nodes.proofs.listing.put_answer.Goals as goal
 

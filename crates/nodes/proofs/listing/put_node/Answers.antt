@@ -3,7 +3,7 @@ use mathlib.Core.List.{◌++◌}
 use native.Mathlib.Omega.{arith}
 use Rattle.matching.proofs.Laws.Widths.{back}
 use Rattle.player.specs.Definitions.Text.{bytes, field, last_field}
-use Rattle.player.specs.Laws.Text.{written_then}
+use Rattle.player.proofs.Laws.Text.{written_then}
 use Rattle.nodes.specs.Definitions.{position, entry}
 use Rattle.nodes.proofs.listing.put_node.Goals as goal
 

@@ -2,8 +2,8 @@
 use mathlib.Core.Path.{refl, sym, ◌∙◌}
 use native.Mathlib.Omega.{arith}
 use Rattle.reader.specs.Definitions.{readable}
-use Rattle.reader.specs.Laws.{found_one, found_nothing}
-use Rattle.reader.specs.Theorems.{readable_room}
+use Rattle.reader.proofs.Laws.{found_one, found_nothing}
+use Rattle.reader.proofs.Theorems.{readable_room}
 use Rattle.nodes.specs.Laws.{lines_start, lines_turn, lines_end, lines_full}
 use Rattle.nodes.proofs.listing.put_nodes.Goals as goal
 

@@ -4,7 +4,7 @@ use native.Mathlib.Omega.{arith}
 use lib.IntN.{nat_abs}
 use mir.Syntax.{w16}
 use mir.Facts.{to_z-of_z}
-use Rattle.player.specs.Laws.Text.{written_as}
+use Rattle.player.proofs.Laws.Text.{written_as}
 use Rattle.nodes.specs.Laws.{position_minus, position_plus}
 use Rattle.nodes.proofs.listing.put_position.Goals as goal
 

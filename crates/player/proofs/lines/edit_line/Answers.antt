@@ -3,8 +3,8 @@ use Prim.Native.Nat.{◌/◌, ◌%◌}
 use mathlib.Core.List.{◌++◌}
 use native.Mathlib.Omega.{arith}
 use Rattle.player.specs.Definitions.Text.{bytes, field, last_field}
-use Rattle.player.specs.Laws.Text.{written_then, written_as}
-use Rattle.player.specs.Laws.Lines.{edit_done, edit_refused}
+use Rattle.player.proofs.Laws.Text.{written_then, written_as}
+use Rattle.player.proofs.Laws.Lines.{edit_done, edit_refused}
 use Rattle.player.proofs.lines.edit_line.Goals as goal
 
 pub returns-then-refusal-eq0 : goal.returns-then-refusal-eq0

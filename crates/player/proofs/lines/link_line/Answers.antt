@@ -4,7 +4,7 @@ use native.Mathlib.Omega.{arith}
 use Rattle.matching.specs.Definitions.Rows.{link_of}
 use Rattle.player.specs.Definitions.Text.{bytes, field, last_field}
 use Rattle.player.specs.Definitions.Lines.{link_line}
-use Rattle.player.specs.Laws.Text.{written_then}
+use Rattle.player.proofs.Laws.Text.{written_then}
 use Rattle.player.proofs.lines.link_line.Goals as goal
 
 pub returns : goal.returns

@@ -2,8 +2,8 @@
 use Prim.Native.Nat.{◌/◌, ◌%◌}
 use native.Mathlib.Omega.{arith}
 use Rattle.player.specs.Definitions.Text.{bytes, field, last_field}
-use Rattle.player.specs.Laws.Text.{written_then, written_as}
-use Rattle.player.specs.Laws.Lines.{load_done, load-refused}
+use Rattle.player.proofs.Laws.Text.{written_then, written_as}
+use Rattle.player.proofs.Laws.Lines.{load_done, load-refused}
 use Rattle.player.proofs.lines.load_line.Goals as goal
 
 pub returns-then-refusal-eq0 : goal.returns-then-refusal-eq0

@@ -1,5 +1,5 @@
 -- As many as are read.
-use Rattle.player.specs.Laws.Links.{links_count}
+use Rattle.player.proofs.Laws.Links.{links_count}
 use Rattle.player.proofs.links.count_links.Goals as goal
 
 pub returns : goal.returns

@@ -1,7 +1,7 @@
 -- The links are read and written out.
 use native.Mathlib.Omega.{arith}
-use Rattle.player.specs.Laws.Text.{written_as}
-use Rattle.player.specs.Laws.Links.{links_lines}
+use Rattle.player.proofs.Laws.Text.{written_as}
+use Rattle.player.proofs.Laws.Links.{links_lines}
 use Rattle.player.proofs.links.link_lines.Goals as goal
 
 pub returns : goal.returns

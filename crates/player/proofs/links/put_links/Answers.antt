@@ -1,7 +1,7 @@
 -- One line more in each turn.
 use mathlib.Core.Path.{◌≡◌, refl, ◌∙◌}
 use native.Mathlib.Omega.{arith}
-use Rattle.player.specs.Laws.Links.{links_start, links_turn}
+use Rattle.player.proofs.Laws.Links.{links_start, links_turn}
 use Rattle.player.proofs.links.put_links.Goals as goal
 
 pub loop-k-init : goal.loop-k-init

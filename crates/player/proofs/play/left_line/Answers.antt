@@ -1,7 +1,7 @@
 -- A line where bytes of an edit are left over and edits are still read, otherwise none.
 use native.Mathlib.Omega.{arith}
-use Rattle.player.specs.Laws.Text.{written_none, written_as}
-use Rattle.player.specs.Laws.Play.{left_part, left_nothing, left_unread}
+use Rattle.player.proofs.Laws.Text.{written_none, written_as}
+use Rattle.player.proofs.Laws.Play.{left_part, left_nothing, left_unread}
 use Rattle.player.proofs.play.left_line.Goals as goal
 
 pub returns-then-left-ne0 : goal.returns-then-left-ne0

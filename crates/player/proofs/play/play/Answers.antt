@@ -3,8 +3,8 @@ use mathlib.Core.List.{◌++◌}
 use native.Mathlib.Omega.{arith}
 use lib.ListN.{length}
 use Rattle.player.specs.Definitions.Transcript.{drawing, playable, edit_lines, left_line, link_lines}
-use Rattle.player.specs.Laws.Text.{written_then, written_as}
-use Rattle.player.specs.Laws.Play.{play_lines_lem}
+use Rattle.player.proofs.Laws.Text.{written_then, written_as}
+use Rattle.player.proofs.Laws.Play.{play_lines_lem}
 use Rattle.player.proofs.play.play.Goals as goal
 
 pub returns : goal.returns

@@ -1,7 +1,7 @@
 -- The call, and its line.
 use native.Mathlib.Omega.{arith}
-use Rattle.player.specs.Laws.Text.{written_as}
-use Rattle.player.specs.Laws.Play.{turn_after, turn_line_lem}
+use Rattle.player.proofs.Laws.Text.{written_as}
+use Rattle.player.proofs.Laws.Play.{turn_after, turn_line_lem}
 use Rattle.player.proofs.play.play_edit.Goals as goal
 
 pub returns : goal.returns

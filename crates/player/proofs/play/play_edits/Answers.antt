@@ -5,7 +5,7 @@ use native.Mathlib.Omega.{arith}
 use lib.ListN.{take, drop}
 use Rattle.tables.specs.Definitions.Sizes.{edit_size}
 use Rattle.player.specs.Definitions.Transcript.{drawing}
-use Rattle.player.specs.Laws.Play.{edits_none, edits_start, edited_more, edits_turn}
+use Rattle.player.proofs.Laws.Play.{edits_none, edits_start, edited_more, edits_turn}
 use Rattle.player.proofs.play.play_edits.Goals as goal
 
 pub loop-k-init : goal.loop-k-init

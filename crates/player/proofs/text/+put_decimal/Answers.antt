@@ -1,7 +1,7 @@
 -- The digits of a tenth of the number, and one more.
 use Rattle.std.proofs.Common.{[], ◌∷◌, ◌/◌, ◌%◌, sym, arith}
 use Rattle.player.specs.Definitions.Text.{digit, decimal}
-use Rattle.player.specs.Laws.Text.{length_one, length_more, decimal_one, decimal_more, written_byte, written_then, written_as}
+use Rattle.player.proofs.Laws.Text.{length_one, length_more, decimal_one, decimal_more, written_byte, written_then, written_as}
 use Rattle.player.proofs.text.+put_decimal.Goals as goal
 
 pub bounds-text-at : goal.bounds-text-at

@@ -1,7 +1,7 @@
 -- A number behind a word.
 use native.Mathlib.Omega.{arith}
 use Rattle.player.specs.Definitions.Text.{decimal, field}
-use Rattle.player.specs.Laws.Text.{decimal_short, written_then}
+use Rattle.player.proofs.Laws.Text.{decimal_short, written_then}
 use Rattle.player.proofs.text.put_field.Goals as goal
 
 pub put_decimal-requires : goal.put_decimal-requires

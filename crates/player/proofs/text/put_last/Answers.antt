@@ -1,7 +1,7 @@
 -- The end of a line behind a field.
 use native.Mathlib.Omega.{arith}
 use Rattle.player.specs.Definitions.Text.{bytes, field, last_field}
-use Rattle.player.specs.Laws.Text.{written_then}
+use Rattle.player.proofs.Laws.Text.{written_then}
 use Rattle.player.proofs.text.put_last.Goals as goal
 
 pub returns : goal.returns

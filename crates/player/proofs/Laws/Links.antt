@@ -14,7 +14,7 @@ use Rattle.lists.specs.Lists.{LinksRead}
 use Rattle.player.specs.Definitions.Text.{Written}
 use Rattle.player.specs.Definitions.Lines.{link_line}
 use Rattle.player.specs.Definitions.Transcript.{link_lines}
-use Rattle.player.specs.Laws.Text.{written_none, written_then, written_as}
+use Rattle.player.proofs.Laws.Text.{written_none, written_then, written_as}
 
 module _ (L : List (List ℕ)) where
   -- As many links as were read.

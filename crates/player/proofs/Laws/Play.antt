@@ -15,7 +15,7 @@ use Rattle.contract.specs.Definitions.Calls.{pair_call, edit_call}
 use Rattle.player.specs.Definitions.Text.{Written}
 use Rattle.player.specs.Definitions.Lines.{refusal_in, load_line, edit_line, part_line, short_line}
 use Rattle.player.specs.Definitions.Transcript.{Drawing, drawing, after, turn_line, edit_at, edited, edit_lines, edits_most, tables_size, left_line, link_lines, playable, play_lines, load_lines, table_a, table_b, edits_in, transcript}
-use Rattle.player.specs.Laws.Text.{written_none, written_then, written_as}
+use Rattle.player.proofs.Laws.Text.{written_none, written_then, written_as}
 
 -- One edit.
 module _ (a b l e a' b' l' : List ℕ) (answer : ℕ) (h : record { code = answer; held = lent a' b' l'; others = e ∷ [] } ≡ edit_call a b l e) where

@@ -15,7 +15,7 @@ use Rattle.contract.specs.Definitions.Shapes.{Outcome}
 use Rattle.contract.specs.Definitions.Calls.{pair_call}
 use Rattle.player.specs.Definitions.Lines.{refusal_in, load_line}
 use Rattle.player.specs.Definitions.Transcript.{Drawing, drawing, after, turn_line, edit_at, edited, edit_lines, edits_most, tables_size, link_lines, playable, play_lines, load_lines, table_a, table_b, edits_in, transcript, input_room}
-use Rattle.player.specs.Laws.Play.{left_unread, input_whole}
+use Rattle.player.proofs.Laws.Play.{left_unread, input_whole}
 
 drop-take : (n m : ℕ) (l : List ℕ) → n ≤ length l → drop n (take (n + m) l) ≡ take m (drop n l)
 drop-take n m l h = ap (drop n) (take-add n m l) ∙ drop_at (take n l) (take m (drop n l)) n (length-take-le n l h)

@@ -13,7 +13,7 @@ use Rattle.tables.specs.Definitions.Tables.{nodes_in, first_fault}
 use Rattle.tables.specs.Laws.Rows.{and_split}
 use Rattle.tables.proofs.Laws.Accepted.{room}
 use Rattle.reader.specs.Definitions.{nth, numbered, missing, sound, readable, refused_row, start_row, row_after, node_at, node_of}
-use Rattle.reader.specs.Laws.{after_refused, after_read, after_none, after_again, start_refused, start_first, node_length, node_behind, of_length, of_refused, of_nodes, nth_behind, numbered_empty, row_node}
+use Rattle.reader.proofs.Laws.{after_refused, after_read, after_none, after_again, start_refused, start_first, node_length, node_behind, of_length, of_refused, of_nodes, nth_behind, numbered_empty, row_node}
 
 -- A sound table, as the definition of a faulty row puts it.
 record Sound (t : List ℕ) : Type 0 where
