@@ -2,18 +2,17 @@
 use Prim.Native.Nat.{ℕ}
 use mathlib.Core.Path.{refl, sym, ◌∙◌, ap}
 use mathlib.Core.List.{List, [], ◌∷◌}
-use lib.IntN.{ℤ, pos}
 use lib.ListN.{length-replicate}
 use Rattle.matching.specs.Definitions.Nodes.{master_a, master_b}
 use Rattle.matching.specs.Definitions.Links.{Link}
 use Rattle.tables.specs.Laws.ListRead.{bytes_known}
 use Rattle.contract.specs.declared.Answer.TheVariants.{Refused}
 use Rattle.contract.specs.declared.Refusal.TheVariants.{Length}
-use Rattle.contract.proofs.Laws.Conditions.{stated}
 use Rattle.load.specs.Laws.Represents.{loaded_named}
 use Rattle.verdicts.specs.Lists.{list_answer}
 use Rattle.pairing.specs.Laws.Verdicts.{tables_length, tables_judged, list_refused, set_beside, set_links, set_joined, list_judged}
 use Rattle.pairing.specs.Laws.Sets.{no_limits, both_sound, list_size_lem, sound_represents}
+use Rattle.pairing.proofs.Laws.Begin.{may_load, may_judge}
 use Rattle.verdicts.proofs.Laws.Answers.{is_done, is_refused}
 use Rattle.pairing.proofs.list.judge_all.Goals as goal
 
@@ -23,18 +22,12 @@ returns-then-not-lengths_right c =
     list_refused x.a.now x.b.now x.list.now x.links.now (Refused Length 0) refl (tables_length x.a.now x.b.now x.list.now (sym c.lengths_right.ensures ∙ c.if-not-lengths_right.true))
 
 pub load-s-requires : goal.load-s-requires
-load-s-requires c =
-    let s = stated _ _ (sym c.lengths_right.ensures ∙ c.if-not-lengths_right.false) in
-    (s.a, s.b, record { numbers = length-replicate {A = ℕ} 1152 0; positions = length-replicate {A = List ℤ} 1152 (pos 0 ∷ pos 0 ∷ []); capacities = length-replicate {A = ℕ} 1152 0 })
+load-s-requires c = may_load _ _ (sym c.lengths_right.ensures ∙ c.if-not-lengths_right.false)
 
 pub judge-answer-requires : goal.judge-answer-requires
 judge-answer-requires c =
-    let s = stated _ _ (sym c.lengths_right.ensures ∙ c.if-not-lengths_right.false) in
     let l = c.load-s.ensures in
-    record {
-      a_len = (s.a, s.b, record { slots = length-replicate {A = ℕ} 2048 0; rows = length-replicate {A = ℕ} 1152 0 });
-      named = (loaded_named l master_a, loaded_named l master_b);
-    }
+    record { a_len = may_judge _ _ (sym c.lengths_right.ensures ∙ c.if-not-lengths_right.false); named = (loaded_named l master_a, loaded_named l master_b) }
 
 pub examine-requires : goal.examine-requires
 examine-requires c =

@@ -3,19 +3,18 @@ use Prim.Native.Nat.{ℕ}
 use mathlib.Core.Path.{refl, sym, ◌∙◌}
 use mathlib.Core.List.{List, [], ◌∷◌}
 use native.Mathlib.Omega.{arith}
-use lib.IntN.{ℤ, pos}
 use lib.ListN.{length-replicate}
 use Rattle.matching.specs.Definitions.Nodes.{master_a, master_b}
 use Rattle.tables.specs.Laws.ListRead.{bytes_known}
 use Rattle.contract.specs.declared.Answer.TheVariants.{Refused}
 use Rattle.contract.specs.declared.Refusal.TheVariants.{Length, TableB}
 use Rattle.contract.specs.Definitions.Requests.{pair}
-use Rattle.contract.proofs.Laws.Conditions.{stated}
 use Rattle.contract.proofs.Laws.Places.{tried}
 use Rattle.load.specs.Laws.Represents.{loaded_named}
 use Rattle.pairing.specs.Laws.Verdicts.{tables_length, tables_judged, set_join}
 use Rattle.pairing.specs.Laws.Calls.{tables_call, pair_call_lem}
 use Rattle.pairing.specs.Laws.Sets.{both_sound, list_size_lem, sound_represents}
+use Rattle.pairing.proofs.Laws.Begin.{may_load, may_judge}
 use Rattle.verdicts.proofs.Laws.Answers.{is_done, is_refused}
 use Rattle.pairing.proofs.pair.pair.Goals as goal
 
@@ -25,18 +24,12 @@ returns-then-not-lengths_right c =
     tables_call pair x.a.now x.b.now x.list.now (Refused Length 0) refl (tables_length x.a.now x.b.now x.list.now (sym c.lengths_right.ensures ∙ c.if-not-lengths_right.true)) refl (tried _ _ TableB refl refl)
 
 pub load-s-requires : goal.load-s-requires
-load-s-requires c =
-    let s = stated _ _ (sym c.lengths_right.ensures ∙ c.if-not-lengths_right.false) in
-    (s.a, s.b, record { numbers = length-replicate {A = ℕ} 1152 0; positions = length-replicate {A = List ℤ} 1152 (pos 0 ∷ pos 0 ∷ []); capacities = length-replicate {A = ℕ} 1152 0 })
+load-s-requires c = may_load _ _ (sym c.lengths_right.ensures ∙ c.if-not-lengths_right.false)
 
 pub judge-answer-requires : goal.judge-answer-requires
 judge-answer-requires c =
-    let s = stated _ _ (sym c.lengths_right.ensures ∙ c.if-not-lengths_right.false) in
     let l = c.load-s.ensures in
-    record {
-      a_len = (s.a, s.b, record { slots = length-replicate {A = ℕ} 2048 0; rows = length-replicate {A = ℕ} 1152 0 });
-      named = (loaded_named l master_a, loaded_named l master_b);
-    }
+    record { a_len = may_judge _ _ (sym c.lengths_right.ensures ∙ c.if-not-lengths_right.false); named = (loaded_named l master_a, loaded_named l master_b) }
 
 pub join-n-requires : goal.join-n-requires
 join-n-requires c =

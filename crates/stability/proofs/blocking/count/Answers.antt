@@ -1,11 +1,12 @@
 -- Positions inside lie so close that the distance leaves room for the tie.
 use native.Mathlib.Omega.{arith}
 use Prim.Native.Nat.{◌<◌}
-use mathlib.Core.Path.{◌≡◌}
+use Rattle.std.proofs.Common.{◌≡◌, refl, ◌∙◌, ℤ, w16, to_z, of_z}
 use borrow.Author.Count.{below_none, below_more}
 use lib.IntN.{pos}
 use lib.ListN.{get_or}
 use Rattle.matching.specs.Definitions.Pairs.{squared_distance}
+use Rattle.matching.specs.Definitions.Columns.{Inside, Reach}
 use Rattle.matching.specs.Definitions.Rows.{across, upward, key}
 use Rattle.matching.proofs.Laws.Distance.{inside_reach, distance_fits}
 use Rattle.matching.proofs.Laws.Sets.{inside_back}
@@ -28,18 +29,19 @@ offset_bounds-cy-k c = omega arith
 pub bounds-cy-k : goal.bounds-cy-k
 bounds-cy-k c = omega arith
 
+-- Two positions inside, as the distance reads each from its two bytes: within reach, and as far apart as they are.
+module _ (x y u v : ℤ) (p : Inside x y) (q : Inside u v) where
+  read_reach : Reach (to_z w16 (of_z w16 x)) (to_z w16 (of_z w16 y)) (to_z w16 (of_z w16 u)) (to_z w16 (of_z w16 v))
+  read_reach = rw (inside_back x p.0, inside_back y p.1, inside_back u q.0, inside_back v q.1) (inside_reach x y u v p q)
+
+  read_distance : squared_distance (to_z w16 (of_z w16 x)) (to_z w16 (of_z w16 y)) (to_z w16 (of_z w16 u)) (to_z w16 (of_z w16 v)) ≡ squared_distance x y u v
+  read_distance = rw (inside_back x p.0, inside_back y p.1, inside_back u q.0, inside_back v q.1) refl
+
 pub squared_distance-d-requires : goal.squared_distance-d-requires
 squared_distance-d-requires c =
     let s = c.args in
-    let h = c.requires in
     let k = c.loop-k.k in
-    let i = h.2 k c.loop-k-test.true in
-    let x = across s.p in
-    let y = upward s.p in
-    let u = get_or s.cx.now k (pos 0) in
-    let v = get_or s.cy.now k (pos 0) in
-    rw (inside_back x h.0.0, inside_back y h.0.1, inside_back u i.0, inside_back v i.1)
-    (inside_reach x y u v h.0 i)
+    read_reach (across s.p) (upward s.p) (get_or s.cx.now k (pos 0)) (get_or s.cy.now k (pos 0)) c.requires.0 (c.requires.2 k c.loop-k-test.true)
 
 -- The distance of the node and lane k.
 apart : (c : After-squared_distance-d)
@@ -49,14 +51,12 @@ apart : (c : After-squared_distance-d)
     (c.squared_distance-d.result ≡ d) × (d < 4294967295)
 apart c =
     let s = c.args in
-    let h = c.requires in
-    let k = c.loop-k.k in
-    let i = h.2 k c.loop-k-test.true in
-    let x = across s.p in
-    let y = upward s.p in
-    let u = get_or s.cx.now k (pos 0) in
-    let v = get_or s.cy.now k (pos 0) in
-    (rw (inside_back x h.0.0, inside_back y h.0.1, inside_back u i.0, inside_back v i.1) at c.squared_distance-d.ensures, distance_fits x y u v (inside_reach x y u v h.0 i))
+    let u = get_or s.cx.now c.loop-k.k (pos 0) in
+    let v = get_or s.cy.now c.loop-k.k (pos 0) in
+    let i = c.requires.2 c.loop-k.k c.loop-k-test.true in (
+      c.squared_distance-d.ensures ∙ read_distance (across s.p) (upward s.p) u v c.requires.0 i,
+      distance_fits (across s.p) (upward s.p) u v (inside_reach (across s.p) (upward s.p) u v c.requires.0 i),
+    )
 
 pub blocks-count-requires : goal.blocks-count-requires
 blocks-count-requires c = omega (arith, apart (goal.at.blocks-count-requires c).After-squared_distance-d)
