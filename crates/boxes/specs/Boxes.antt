@@ -57,17 +57,6 @@ pub record Nearest (p b r : List ℤ) : Type 0 where
   pub inside : Inside (across p) (upward p) → Inner b → Inside (across r) (upward r)
   pub between : (u v : ℤ) → In b u v → Between (across p) (across r) u × Between (upward p) (upward r) v
 
--- r is one of p and q, and neither is below it, or above it.
-pub record Least (p q r : ℤ) : Type 0 where
-  pub first : r ≤ℤ p
-  pub second : r ≤ℤ q
-  pub small : (n : ℕ) → nat_abs p ≤ n → nat_abs q ≤ n → nat_abs r ≤ n
-
-pub record Greatest (p q r : ℤ) : Type 0 where
-  pub first : p ≤ℤ r
-  pub second : q ≤ℤ r
-  pub small : (n : ℕ) → nat_abs p ≤ n → nat_abs q ≤ n → nat_abs r ≤ n
-
 -- The box r has room for the box b and for the position p, and is inside where these are.
 pub record Grown (b p r : List ℤ) : Type 0 where
   pub inner : Inner b → Inside (across p) (upward p) → Inner r

@@ -5,31 +5,15 @@
 ghost use Rattle.std.specs.Prelude.{ℕ, ◌<◌, ◌≤◌, length};
 ghost use Rattle.matching.specs.Definitions.Columns.{Inside};
 ghost use Rattle.matching.specs.Definitions.Rows.{across, upward, x_at, y_at};
-ghost use Rattle.boxes.specs.Boxes.{Inner, Around, Clear, Gap, Clamped, Nearest, Least, Greatest, Grown};
-
-// The lesser of two coordinates, and the greater.
-fn lesser(p: i16, q: i16) -> i16
-    ensures { Least p q result }
-{
-    if p < q { p } else { q }
-}
-
-fn greater(p: i16, q: i16) -> i16
-    ensures { Greatest p q result }
-{
-    if p < q { q } else { p }
-}
+ghost use Rattle.boxes.specs.Boxes.{Inner, Around, Clear, Gap, Clamped, Nearest, Grown};
 
 // The box around a box and a position.
 fn grow(b: [i16; 4], p: [i16; 2]) -> [i16; 4]
     ensures { Grown b p result }
 {
-    [
-        lesser(b[0], p[0]),
-        greater(b[1], p[0]),
-        lesser(b[2], p[1]),
-        greater(b[3], p[1]),
-    ]
+    let [west, east, south, north] = b;
+    let [x, y] = p;
+    [west.min(x), east.max(x), south.min(y), north.max(y)]
 }
 
 // The box around the positions of the rows from first to end. The first is looked at twice, so that LLVM reads a block in whole vectors.
@@ -39,33 +23,27 @@ pub fn around(at: &[[i16; 2]], first: usize, end: usize) -> [i16; 4]
 {
     let p = at[first];
     let mut b = [p[0], p[0], p[1], p[1]];
-    let mut k = first;
-    while k < end {
+    for k in first..end {
         let next = grow(b, at[k]);
         b = next;
-        k += 1;
     }
     b
 }
 
-// The coordinate from low to high that is nearest to p.
+// The coordinate from low to high that is nearest to p. It is `clamp` without its condition, that low is at most high: callers may pass any box.
 fn clamp(p: i16, low: i16, high: i16) -> i16
     ensures { Clamped p low high result }
 {
-    if p < low {
-        return low;
-    }
-    if high < p {
-        return high;
-    }
-    p
+    p.min(high).max(low)
 }
 
 // The position in the box that is nearest to p.
 fn nearest(p: [i16; 2], b: [i16; 4]) -> [i16; 2]
     ensures { Nearest p b result }
 {
-    [clamp(p[0], b[0], b[1]), clamp(p[1], b[2], b[3])]
+    let [west, east, south, north] = b;
+    let [x, y] = p;
+    [clamp(x, west, east), clamp(y, south, north)]
 }
 
 // The squared distance of a position and a box: that of the position in the box that is nearest to it.
@@ -81,5 +59,6 @@ pub fn gap(b: [i16; 4], c: [i16; 4]) -> u32
     requires { Inner b × Inner c }
     ensures { Gap b c result }
 {
-    clearance(nearest([c[0], c[2]], b), c)
+    let [west, _, south, _] = c;
+    clearance(nearest([west, south], b), c)
 }

@@ -11,5 +11,4 @@ pub mod Decide
 pub mod Step
 pub mod Order
 pub mod Merge
-pub mod Runs
 pub mod Sorts

@@ -1,13 +1,14 @@
 -- The rows of each master in blocks of 32. Each block has a list of its rows that have something left, and a box around all of its rows.
 use Rattle.std.specs.Prelude.{ℕ, ◌+◌, ◌-◌, ◌*◌, ◌/◌, ◌<◌, ◌≤◌, min, ◌≡◌, List, [], length, get_or, set, ℤ}
 use Rattle.matching.specs.declared.Range.{Range}
-use Rattle.matching.specs.Definitions.Nodes.{Master}
+use Rattle.matching.specs.declared.Master.{Master}
 use Rattle.matching.specs.Definitions.Columns.{Inside}
 use Rattle.matching.specs.Definitions.Sizes.{set_rows, set_blocks, block_rows, number_range}
 use Rattle.matching.specs.Definitions.Rows.{range, x_at, y_at}
 use Rattle.boxes.specs.Boxes.{Around}
 use Rattle.closest.specs.Rows.{Rows}
-use Rattle.closest.specs.Live.{Lists, Sized, Elsewhere, Live}
+use Rattle.closest.specs.declared.live.Lists.{Lists}
+use Rattle.closest.specs.Live.{Sized, Elsewhere, Live}
 
 -- Where block b starts,
 abbrev pub start : ℕ → ℕ

@@ -1,7 +1,7 @@
 -- The chain of nearest neighbours, and the picks made along it.
-use Rattle.std.specs.Prelude.{ℕ, ◌+◌, ◌*◌, ◌-◌, ◌<◌, ◌≤◌, min, ◌≡◌, Bool, true, false, cond, List, [], ◌∷◌, ltb, length, get_or, set, ℤ}
+use Rattle.std.specs.Prelude.{ℕ, ◌+◌, ◌*◌, ◌-◌, ◌<◌, ◌≤◌, min, ◌≡◌, cond, Option, None, Some, List, [], ◌∷◌, ltb, length, get_or, set, ℤ}
 use Rattle.matching.specs.declared.Range.{Range}
-use Rattle.matching.specs.Definitions.Nodes.{master_a, master_b}
+use Rattle.matching.specs.declared.Master.TheVariants.{A as master_a, B as master_b}
 use Rattle.matching.specs.Definitions.Pairs.{Before}
 use Rattle.matching.specs.Definitions.Links.{Link}
 use Rattle.matching.specs.Definitions.Sizes.{half, link_rows}
@@ -9,12 +9,12 @@ use Rattle.matching.specs.Definitions.Rows.{On, Placed, links_in}
 use Rattle.matching.proofs.Theorems.Mutual.{puts}
 use Rattle.closest.specs.declared.chain.Pick.{Pick}
 use Rattle.closest.specs.declared.chain.Move.{Move}
-use Rattle.closest.specs.declared.chain.Move.TheVariants.{Stop, Push, Take}
-use Rattle.closest.specs.declared.chain.State.{State}
+use Rattle.closest.specs.declared.chain.Move.TheVariants.{Push, Take}
 use Rattle.closest.specs.declared.nearest.Near.{Near}
 use Rattle.closest.specs.Sizes.{chain_rows, far_key}
 use Rattle.closest.specs.Rows.{Rows, Held, Faces, far, between, rest, Sound}
-use Rattle.closest.specs.Live.{Lists, row_at, spot_of}
+use Rattle.closest.specs.declared.live.Lists.{Lists}
+use Rattle.closest.specs.Live.{row_at, spot_of}
 use Rattle.closest.specs.Blocks.{start, Block, end_of, least_of, Kept, Fenced}
 use Rattle.closest.specs.Nearest.{Keyed, Nearest, Chosen}
 use Rattle.closest.specs.Order.{Table}
@@ -50,10 +50,10 @@ module _ (R : Rows) (left chain : List ℕ) (n : ℕ) where
     pub not_j : (h : ℕ) → h + 2 < n → at h ≡ j → ⊥
 
   -- What a decision says: nothing is left to take, or a row may be pushed, or A's row and B's row taken.
-  abbrev pub Decided : Move → Type 0
-  Decided Stop = rest R left ≡ []
-  Decided (Push w) = Pushed w
-  Decided (Take p) = Mutually p.a p.b p.distance × (p.a < half)
+  abbrev pub Decided : Option Move → Type 0
+  Decided None = rest R left ≡ []
+  Decided (Some (Push w)) = Pushed w
+  Decided (Some (Take p)) = Mutually p.a p.b p.distance × (p.a < half)
 
 -- An empty chain begins with row w: the first that a block of the range lists.
 pub record Opens (listed E : List (List ℕ)) (r : Range) (w : ℕ) : Type 0 where
@@ -63,10 +63,9 @@ pub record Opens (listed E : List (List ℕ)) (r : Range) (w : ℕ) : Type 0 whe
   pub is : w ≡ row_at listed (start number)
 
 -- How an empty chain begins, or that the range lists no row.
-abbrev pub Begun : List (List ℕ) → List (List ℕ) → Range → Move → Type 0
-Begun listed E r Stop = (b : ℕ) → Block r b → end_of E b ≤ start b
-Begun listed E r (Push w) = Opens listed E r w
-Begun listed E r (Take p) = ⊥
+abbrev pub Begun : List (List ℕ) → List (List ℕ) → Range → Option ℕ → Type 0
+Begun listed E r None = (b : ℕ) → Block r b → end_of E b ≤ start b
+Begun listed E r (Some w) = Opens listed E r w
 
 -- The place of the row below the top of a chain of n rows.
 abbrev pub below : List ℕ → Lists → ℕ → ℕ
@@ -85,19 +84,14 @@ pub data Seeded (p : List ℤ) (chain : List ℕ) (Q : Lists) (n : ℕ) (s : Nea
   under : 2 ≤ n → s.at ≡ below chain Q n → Keyed p Q.listed Q.points s.at s.key → Seeded p chain Q n s
 
 -- The pair of two rows, A's first.
-unfoldable pub sides : ℕ → ℕ → ℕ → Move
-sides t w d = cond (ltb t half) (Take (record { a = t; b = w; distance = d })) (Take (record { a = w; b = t; distance = d }))
+unfoldable pub sides : ℕ → ℕ → ℕ → Pick
+sides t w d = cond (ltb t half) (record { a = t; b = w; distance = d }) (record { a = w; b = t; distance = d })
 
 -- A chain of n rows after a pair is taken: r of them are kept, not the top, and the row below it only where it has something left;
 -- or the top, which has something left, begins a new chain.
 pub data Trimmed (left chain : List ℕ) (n : ℕ) (chain' : List ℕ) (r : ℕ) : Type 0 where
   kept : chain' ≡ chain → r < n → ((h : ℕ) → h < r → n ≤ h + 2 → 1 ≤ get_or left (get_or chain h 0) 0) → Trimmed left chain n chain' r
   anew : chain' ≡ set chain 0 (get_or chain (n - 1) 0) → r ≡ 1 → 1 ≤ get_or left (get_or chain (n - 1) 0) 0 → Trimmed left chain n chain' r
-
--- 1 for true.
-abbrev pub bit : Bool → ℕ
-bit true = 1
-bit false = 0
 
 -- The lesser of what the two rows of a pair have left,
 abbrev pub amount : List ℕ → Pick → ℕ
@@ -132,11 +126,11 @@ module _ (R : Rows) where
   whole left L n = puts (links_in L n) (rest R left)
 
   -- The rows, the blocks' lists and boxes, and the chain.
-  pub record Ready (left : List ℕ) (Q : Lists) (E : List (List ℕ)) (X : List (List ℤ)) (chain : List ℕ) (s : State) : Type 0 where
+  pub record Ready (left : List ℕ) (Q : Lists) (E : List (List ℕ)) (X : List (List ℤ)) (chain : List ℕ) (depth : ℕ) : Type 0 where
     pub sound : Sound R left
     pub kept : Kept R left Q E
     pub fenced : Fenced R E X
-    pub path : Chain R left chain s.depth
+    pub path : Chain R left chain depth
 
   -- There is room for the links to be taken after the first n.
   pub record Room (left : List ℕ) (L : Table) (n : ℕ) : Type 0 where
@@ -144,20 +138,19 @@ module _ (R : Rows) where
     pub most : n + length (rest R left) ≤ link_rows
 
   -- The state of a run.
-  pub record Good (left : List ℕ) (Q : Lists) (E : List (List ℕ)) (X : List (List ℤ)) (chain : List ℕ) (L : Table) (s : State) : Type 0 where
-    pub ready : Ready left Q E X chain s
-    pub room : Room left L s.links
+  pub record Good (left : List ℕ) (Q : Lists) (E : List (List ℕ)) (X : List (List ℤ)) (chain : List ℕ) (L : Table) (depth n : ℕ) : Type 0 where
+    pub ready : Ready left Q E X chain depth
+    pub room : Room left L n
 
   -- What falls with each step: the links to come, then the room on the chain.
-  abbrev pub to_go : List ℕ → State → ℕ
-  to_go left s = length (rest R left) * (chain_rows + 2) + (chain_rows - s.depth) + bit s.more
+  abbrev pub to_go : List ℕ → ℕ → ℕ
+  to_go left depth = length (rest R left) * (chain_rows + 2) + (chain_rows - depth)
 
   -- What a step does.
-  pub record Stepped (X : List (List ℤ)) (left : List ℕ) (L : Table) (s : State) (left' : List ℕ) (Q' : Lists) (E' : List (List ℕ)) (chain' : List ℕ) (L' : Table) (r : State) : Type 0 where
-    pub good : Good left' Q' E' X chain' L' r
-    pub same : whole left' L' r.links ≡ whole left L s.links
-    pub falls : to_go left' r < to_go left s
-    pub ends : r.more ≡ false → rest R left' ≡ []
+  pub record Stepped (X : List (List ℤ)) (left : List ℕ) (L : Table) (depth n : ℕ) (left' : List ℕ) (Q' : Lists) (E' : List (List ℕ)) (chain' : List ℕ) (L' : Table) (depth' n' : ℕ) : Type 0 where
+    pub good : Good left' Q' E' X chain' L' depth' n'
+    pub same : whole left' L' n' ≡ whole left L n
+    pub falls : to_go left' depth' < to_go left depth
 
   -- All pairs are taken: the n links that there are then, put in order, are the first k put in among those that were to be taken.
   pub record Picked (left : List ℕ) (L : Table) (k : ℕ) (L' : Table) (n : ℕ) : Type 0 where

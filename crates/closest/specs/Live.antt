@@ -1,16 +1,7 @@
 -- The lists of the rows that have something left: the rows from a first to an end are listed in the places from there on.
 use Rattle.std.specs.Prelude.{ℕ, ◌+◌, ◌-◌, ◌<◌, ◌≤◌, ◌≡◌, List, [], ◌∷◌, length, get_or, set, ℤ}
 use Rattle.matching.specs.Definitions.Sizes.{set_rows}
-
--- For each place the number and the row listed there, and that row's position; for each row its place.
-pub record Lists : Type 0 where
-  pub listed : List (List ℕ)
-  pub points : List (List ℤ)
-  pub spot : List ℕ
-
--- The same from its parts.
-abbrev pub lists : List (List ℕ) → List (List ℤ) → List ℕ → Lists
-lists listed points spot = record { listed = listed; points = points; spot = spot }
+use Rattle.closest.specs.declared.live.Lists.{Lists}
 
 -- The number at a place,
 abbrev pub number_at : List (List ℕ) → ℕ → ℕ

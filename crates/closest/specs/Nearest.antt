@@ -1,5 +1,5 @@
 -- The row nearest to a position among those that are listed.
-use Rattle.std.specs.Prelude.{ℕ, ◌<◌, ◌≤◌, cond, ◌≡◌, List, [], length, get_or, ltb, ℤ}
+use Rattle.std.specs.Prelude.{ℕ, ◌<◌, ◌≤◌, cond, ◌≡◌, List, [], length, get_or, ltb, eqb, ℤ, Option, None, Some, unwrap_or}
 use Rattle.matching.specs.declared.Range.{Range}
 use Rattle.matching.specs.declared.Spans.{Spans}
 use Rattle.matching.specs.Definitions.Pairs.{squared_distance}
@@ -7,6 +7,7 @@ use Rattle.matching.specs.Definitions.Sizes.{half, set_blocks, number_range}
 use Rattle.matching.specs.Definitions.Rows.{across, upward, Placed, key}
 use Rattle.matching.proofs.Laws.Earliest.{Leq}
 use Rattle.closest.specs.declared.nearest.Near.{Near}
+use Rattle.closest.specs.Sizes.{far_key}
 use Rattle.closest.specs.Rows.{Rows, far, Faces, between}
 use Rattle.closest.specs.Live.{number_at}
 use Rattle.closest.specs.Blocks.{start, Block, end_of, Boxed}
@@ -14,6 +15,14 @@ use Rattle.closest.specs.Blocks.{start, Block, end_of, Boxed}
 -- s, or place k where its key c is less.
 unfoldable pub nearer : Near → ℕ → ℕ → Near
 nearer s c k = cond (ltb c s.key) (record { key = c; at = k }) s
+
+-- The nearest so far where there may be none: then a key above every key stands for it,
+abbrev pub seeded : Option Near → Near
+seeded n = unwrap_or n (record { key = far_key; at = 0 })
+
+-- and a search that ends with that key found none.
+unfoldable pub met : Near → Option Near
+met r = cond (eqb r.key far_key) None (Some r)
 
 -- The squared distance of two positions.
 unfoldable pub apart : List ℤ → List ℤ → ℕ
@@ -74,10 +83,12 @@ module _ (p : List ℤ) (listed : List (List ℕ)) (points : List (List ℤ)) wh
     abbrev pub Scanned : Near → Near → Type 0
     Scanned = Visited set_blocks
 
--- What is known of t's partner: a row of A is seen from B's and the other way round.
-pub record Partner (at : List (List ℤ)) (listed : List (List ℕ)) (points : List (List ℤ)) (E : List (List ℕ)) (s : Spans) (t : ℕ) (n r : Near) : Type 0 where
-  pub onto_b : t < half → Scanned (get_or at t []) listed points E s.b n r
-  pub onto_a : half ≤ t → Scanned (get_or at t []) listed points E s.a n r
+-- What is known of t's partner r, searched for from n on: a row of A is seen from B's and the other way round.
+pub record Partner (at : List (List ℤ)) (listed : List (List ℕ)) (points : List (List ℤ)) (E : List (List ℕ)) (s : Spans) (t : ℕ) (n r : Option Near) : Type 0 where
+  pub best : Near
+  pub onto_b : t < half → Scanned (get_or at t []) listed points E s.b (seeded n) best
+  pub onto_a : half ≤ t → Scanned (get_or at t []) listed points E s.a (seeded n) best
+  pub is : r ≡ met best
 
 module _ (R : Rows) (left : List ℕ) where
   -- No row that faces t and has something left makes an earlier pair with t than w does.

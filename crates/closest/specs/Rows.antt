@@ -1,7 +1,10 @@
 -- The rows of both masters, the pairs that they make, and the links still to be taken.
 use Rattle.std.specs.Prelude.{ℕ, ◌<◌, cond, List, ltb, get_or, ℤ}
 use Rattle.matching.specs.declared.Spans.{Spans}
-use Rattle.matching.specs.Definitions.Nodes.{Master, master_a, master_b, other}
+use Rattle.matching.specs.declared.Master.{Master}
+use Rattle.matching.specs.declared.Master.TheVariants.{A as master_a, B as master_b}
+use Rattle.closest.specs.declared.rows.Rows.{Rows as Lent}
+use Rattle.matching.specs.Definitions.Nodes.{other}
 use Rattle.matching.specs.Definitions.Pairs.{Pair}
 use Rattle.matching.specs.Definitions.Links.{Link}
 use Rattle.matching.specs.Definitions.Join.{join}
@@ -14,9 +17,9 @@ pub record Rows : Type 0 where
   pub at : List (List ℤ)
   pub spans : Spans
 
--- The same from its parts.
-abbrev pub rows : List ℕ → List (List ℤ) → Spans → Rows
-rows ns at s = record { ns = ns; at = at; spans = s }
+-- What the rows that are lent denote.
+abbrev pub lent : Lent → Rows
+lent r = record { ns = r.ns.now; at = r.at.now; spans = r.spans }
 
 module _ (R : Rows) where
   -- Row k is one of them.

@@ -1,16 +1,20 @@
 // The chain of nearest neighbours: each row on it has the next as its nearest; where two rows are each other's, their pair is taken.
-ghost use Rattle.std.specs.Prelude.{◌≡◌, ◌<◌, length};
+ghost use Rattle.std.specs.Prelude.{◌≡◌, ◌+◌, ◌-◌, ◌<◌, ◌≤◌, ℕ, length, get_or, set};
 ghost use Rattle.matching.specs.Definitions.Columns.{Inside};
 ghost use Rattle.matching.specs.Definitions.Sizes.{set_rows, set_blocks};
 ghost use Rattle.matching.specs.Definitions.Rows.{across, upward};
-ghost use Rattle.closest.specs.Rows.{rows};
-ghost use Rattle.closest.specs.Live.{lists};
+ghost use Rattle.closest.specs.Rows.{lent};
 ghost use Rattle.closest.specs.Blocks.{Aligned};
-ghost use Rattle.closest.specs.Chain.{sides, Begun, Seeding, Seeded, Ready, Decided};
+ghost use Rattle.closest.specs.Nearest.{seeded};
+ghost use Rattle.closest.specs.Chain.{sides, Begun, Seeding, Seeded, Ready, Decided, Trimmed};
 
-use crate::{live, nearest, sizes};
+use crate::blocks::Blocks;
+use crate::live::Lists;
+use crate::nearest::{self, Near};
+use crate::rows::Rows;
+use crate::sizes::CHAIN;
+use matching::Range;
 use matching::sizes::{BLOCK, HALF};
-use matching::{Range, Spans};
 
 // A pair of rows that is taken: A's, B's, and how far they are apart.
 #[derive(Clone, Copy)]
@@ -20,114 +24,120 @@ pub struct Pick {
     pub distance: u32,
 }
 
-// What to do next: stop, push a row, or take a pair.
+// What to do next: push a row, or take a pair.
 #[derive(Clone, Copy)]
 pub enum Move {
-    Stop,
     Push(usize),
     Take(Pick),
 }
 
-// How many rows stand on the chain, how many links are written, and whether there may be more.
-#[derive(Clone, Copy)]
-pub struct State {
+// The rows on the chain, from the bottom up to its depth.
+#[derive(Drop)]
+pub struct Chain {
+    pub rows: [u16; CHAIN],
     pub depth: usize,
-    pub links: usize,
-    pub more: bool,
 }
 
-// The pair of rows t and w is taken: which of them is A's.
-fn sided(t: usize, w: usize, d: u32) -> Move
-    ensures { result ≡ sides t w d }
+// The pair of rows t and w, A's first.
+fn sided(t: usize, w: usize, distance: u32) -> Pick
+    ensures { result ≡ sides t w distance }
 {
-    if t < HALF {
-        return Move::Take(Pick {
-            a: t,
-            b: w,
-            distance: d,
-        });
-    }
-    Move::Take(Pick {
-        a: w,
-        b: t,
-        distance: d,
-    })
+    let (a, b) = if t < HALF { (t, w) } else { (w, t) };
+    Pick { a, b, distance }
 }
 
 // An empty chain begins with the first row of a range that is listed, if there is one.
-fn begin(r: Range, listed: &[[u32; 2]], ends: &[[u32; 2]]) -> Move
-    requires { Aligned r × (length listed.now ≡ set_rows) × (length ends.now ≡ set_blocks) }
-    ensures { Begun listed.now ends.now r result }
+fn begin(r: Range, blocks: &Blocks) -> Option<usize>
+    requires { Aligned r × (length blocks.now.lists.listed ≡ set_rows) × (length blocks.now.ends ≡ set_blocks) }
+    ensures { Begun blocks.now.lists.listed blocks.now.ends r result }
 {
-    let mut b = r.from / BLOCK;
-    while b * BLOCK < r.to {
+    for b in r.from / BLOCK..r.to.div_ceil(BLOCK) {
         let first = b * BLOCK;
-        if first < live::index(ends[b][0]) {
-            return Move::Push(live::index(listed[first][1]));
-        }
-        b += 1;
-    }
-    Move::Stop
-}
-
-// The nearest to p, the top's position, before the search: the row below the top on the chain, if there is one.
-fn below(
-    p: [i16; 2],
-    depth: usize,
-    chain: &[u16],
-    listed: &[[u32; 2]],
-    points: &[[i16; 2]],
-    spot: &[u16],
-) -> nearest::Near
-    requires { Inside (across p) (upward p) × Seeding chain.now (lists listed.now points.now spot.now) depth }
-    ensures { Seeded p chain.now (lists listed.now points.now spot.now) depth result }
-{
-    if depth < 2 {
-        return nearest::Near {
-            key: sizes::FAR,
-            at: 0,
-        };
-    }
-    let at = live::wide(spot, live::wide(chain, depth - 2));
-    nearest::Near {
-        key: nearest::measure(p, at, listed, points),
-        at: at,
-    }
-}
-
-// The top's nearest row is pushed, unless it is the row below the top: then their pair is taken. (`ns` and `left` serve the contract alone.)
-pub fn decide(
-    state: State,
-    s: Spans,
-    ns: &[u32],
-    at: &[[i16; 2]],
-    left: &[u32],
-    listed: &[[u32; 2]],
-    points: &[[i16; 2]],
-    spot: &[u16],
-    ends: &[[u32; 2]],
-    boxes: &[[i16; 4]],
-    chain: &[u16],
-) -> Move
-    requires { Ready (rows ns.now at.now s) left.now (lists listed.now points.now spot.now) ends.now boxes.now chain.now state }
-    ensures { Decided (rows ns.now at.now s) left.now chain.now state.depth result }
-{
-    let depth = state.depth;
-    if depth == 0 {
-        return begin(s.a, listed, ends);
-    }
-    let t = live::wide(chain, depth - 1);
-    let seed = below(at[t], depth, chain, listed, points, spot);
-    let w = nearest::partner(t, s, seed, at, listed, points, ends, boxes);
-    if w.key == sizes::FAR {
-        return Move::Stop;
-    }
-    let place = w.at;
-    let row = live::index(listed[place][1]);
-    if depth > 1 {
-        if live::wide(chain, depth - 2) == row {
-            return sided(t, row, matching::distance(w.key));
+        if first < blocks.ends[b][0] as usize {
+            return Some(blocks.lists.listed[first][1] as usize);
         }
     }
-    Move::Push(row)
+    None
+}
+
+impl Chain {
+    // The row at height h.
+    fn row(&self, h: usize) -> usize
+        requires { h < length self.now.rows }
+        ensures { result ≡ get_or self.now.rows h 0 }
+    {
+        usize::from(self.rows[h])
+    }
+
+    // The nearest to p, the top's position, before the search: the row below the top, if there is one.
+    fn below(&self, p: [i16; 2], lists: &Lists) -> Option<Near>
+        requires { Inside (across p) (upward p) × Seeding self.now.rows lists.now self.now.depth }
+        ensures { Seeded p self.now.rows lists.now self.now.depth (seeded result) }
+    {
+        if self.depth < 2 {
+            return None;
+        }
+        let at = usize::from(lists.spot[self.row(self.depth - 2)]);
+        Some(Near {
+            key: nearest::measure(p, at, lists),
+            at,
+        })
+    }
+
+    // The top's nearest row is pushed, unless it is the row below it: then their pair is taken. (`left` serves the contract alone.)
+    pub fn decide(&self, rows: &Rows, left: &[u32], blocks: &Blocks) -> Option<Move>
+        requires { Ready (lent rows.now) left.now blocks.now.lists blocks.now.ends blocks.now.boxes self.now.rows self.now.depth }
+        ensures { Decided (lent rows.now) left.now self.now.rows self.now.depth result }
+    {
+        let depth = self.depth;
+        if depth == 0 {
+            let first = begin(rows.spans.a, blocks)?;
+            return Some(Move::Push(first));
+        }
+        let t = self.row(depth - 1);
+        let seed = self.below(rows.at[t], &blocks.lists);
+        let near = nearest::partner(t, seed, rows, blocks)?;
+        let row = blocks.lists.listed[near.at][1] as usize;
+        if depth > 1 {
+            if self.row(depth - 2) == row {
+                return Some(Move::Take(sided(t, row, matching::distance(near.key))));
+            }
+        }
+        Some(Move::Push(row))
+    }
+
+    // Row w becomes the top.
+    pub fn push(&mut self, w: usize)
+        requires { (self.old.depth < length self.old.rows) × (length self.old.rows ≤ 2000) × (w < set_rows) }
+        ensures { (self.new.rows ≡ set self.old.rows self.old.depth w) × (self.new.depth ≡ self.old.depth + 1) }
+    {
+        self.rows[self.depth] = w as u16;
+        self.depth += 1;
+    }
+
+    // What the row at height h has left.
+    fn left_at(&self, h: usize, left: &[u32]) -> u32
+        requires { (h < length self.now.rows) × (get_or self.now.rows h 0 < length left.now) }
+        ensures { result ≡ get_or left.now (get_or self.now.rows h 0) 0 }
+    {
+        left[self.row(h)]
+    }
+
+    // Pops the top, and the row below it where that is used up. Where at most one row would stay, a top that has something left begins a new chain:
+    // it is searched from next, not a row that may be far away.
+    pub fn trim(&mut self, left: &[u32])
+        requires { (2 ≤ self.old.depth) × (self.old.depth ≤ length self.old.rows)
+            × ((h : ℕ) → h < self.old.depth → get_or self.old.rows h 0 < length left.now) }
+        ensures { Trimmed left.now self.old.rows self.old.depth self.new.rows self.new.depth }
+    {
+        let depth = self.depth;
+        if self.left_at(depth - 2, left) > 0 {
+            self.depth = depth - 1;
+        } else if depth <= 3 && self.left_at(depth - 1, left) > 0 {
+            self.rows[0] = self.rows[depth - 1];
+            self.depth = 1;
+        } else {
+            self.depth = depth - 2;
+        }
+    }
 }

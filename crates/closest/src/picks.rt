@@ -1,141 +1,107 @@
 // The picks along the chain: pairs are taken until none is left.
-ghost use Rattle.std.specs.Prelude.{◌≡◌, true};
-ghost use Rattle.closest.specs.Rows.{rows, Sound};
-ghost use Rattle.closest.specs.Live.{lists};
+ghost use Rattle.std.specs.Prelude.{◌≡◌, ◌<◌, Some, length, get_or};
+ghost use Rattle.matching.specs.Definitions.Sizes.{set_rows};
+ghost use Rattle.closest.specs.Rows.{lent};
 ghost use Rattle.closest.specs.Blocks.{Kept, Fenced};
-ghost use Rattle.closest.specs.Chain.{Good, Stepped, Room, Picked};
+ghost use Rattle.closest.specs.Chain.{Good, Decided, Stepped, Room, Picked, Takes, Taken};
 
-use crate::{blocks, chain, sizes, take};
-use matching::Spans;
+use crate::blocks::Blocks;
+use crate::chain::{Chain, Move, Pick};
+use crate::live::Lists;
+use crate::rows::Rows;
+use crate::sizes::CHAIN;
 use matching::sizes::{BLOCKS, ROWS};
 
-// Pushes a row or takes a pair.
-fn step(
-    state: chain::State,
-    s: Spans,
-    ns: &[u32],
-    at: &[[i16; 2]],
+// Takes a pair as link n: its rows lose what the link says. (A count goes with `links` from here up to `join`: both sorts' links fill one buffer
+// of the caller's, whose length stays that which `Joined` tells of.)
+fn pair(
+    p: Pick,
+    n: usize,
+    rows: &Rows,
     left: &mut [u32],
-    listed: &mut [[u32; 2]],
-    points: &mut [[i16; 2]],
-    spot: &mut [u16],
-    ends: &mut [[u32; 2]],
-    boxes: &[[i16; 4]],
-    chain: &mut [u16],
+    blocks: &mut Blocks,
     links: &mut [[u32; 4]],
-) -> chain::State
-    requires { Good (rows ns.now at.now s) left.old (lists listed.old points.old spot.old) ends.old boxes.now chain.old
-        links.old state × (state.more ≡ true) }
-    ensures { Stepped (rows ns.now at.now s) boxes.now left.old links.old state
-        left.new (lists listed.new points.new spot.new) ends.new chain.new
-        links.new result }
+)
+    requires takes { Takes (lent rows.now) left.old p × (length left.old ≡ set_rows) × (n < length links.old) }
+    requires kept { Kept (lent rows.now) left.old blocks.old.lists blocks.old.ends }
+    ensures taken { Taken (lent rows.now) left.old blocks.old.ends p n links.old
+        left.new blocks.new.lists blocks.new.ends links.new }
+    ensures boxes { blocks.new.boxes ≡ blocks.old.boxes }
 {
-    let depth = state.depth;
-    let n = state.links;
-    let m = chain::decide(
-        state, s, ns, at, left, listed, points, spot, ends, boxes, chain,
-    );
-    let mut r = state;
+    let m = left[p.a].min(left[p.b]);
+    blocks.spend(p.a, m, rows, left);
+    blocks.spend(p.b, m, rows, left);
+    links[n] = [rows.ns[p.a], rows.ns[p.b], p.distance, m];
+}
+
+// Pushes a row, or takes a pair as link n; gives the number of links then.
+fn step(
+    m: Move,
+    rows: &Rows,
+    left: &mut [u32],
+    blocks: &mut Blocks,
+    chain: &mut Chain,
+    links: &mut [[u32; 4]],
+    n: usize,
+) -> usize
+    requires { Good (lent rows.now) left.old blocks.old.lists blocks.old.ends blocks.old.boxes chain.old.rows links.old chain.old.depth n
+        × Decided (lent rows.now) left.old chain.old.rows chain.old.depth (Some m) }
+    ensures { Stepped (lent rows.now) blocks.new.boxes left.old links.old chain.old.depth n
+        left.new blocks.new.lists blocks.new.ends chain.new.rows links.new chain.new.depth result }
+{
     match m {
-        chain::Move::Stop => {
-            r.more = false;
+        Move::Push(w) => {
+            chain.push(w);
+            n
         },
-        chain::Move::Push(w) => {
-            chain[depth] = w as u16;
-            r.depth = depth + 1;
-        },
-        chain::Move::Take(p) => {
-            take::pair(p, n, s, ns, at, left, listed, points, spot, ends, links);
-            r.depth = take::trim(depth, chain, left);
-            r.links = n + 1;
+        Move::Take(p) => {
+            pair(p, n, rows, left, blocks, links);
+            chain.trim(left);
+            n + 1
         },
     }
-    r
 }
 
 // Takes pairs until none is left, and writes their links after the first n, in the order of the picks; gives the number of links then.
 fn run(
-    s: Spans,
-    ns: &[u32],
-    at: &[[i16; 2]],
+    rows: &Rows,
     left: &mut [u32],
-    listed: &mut [[u32; 2]],
-    points: &mut [[i16; 2]],
-    spot: &mut [u16],
-    ends: &mut [[u32; 2]],
-    boxes: &[[i16; 4]],
+    blocks: &mut Blocks,
     links: &mut [[u32; 4]],
     n: usize,
 ) -> usize
-    requires sound { Sound (rows ns.now at.now s) left.old × Fenced (rows ns.now at.now s) ends.old boxes.now }
-    requires kept { Kept (rows ns.now at.now s) left.old (lists listed.old points.old spot.old) ends.old
-        × Room (rows ns.now at.now s) left.old links.old n }
-    ensures { Picked (rows ns.now at.now s) left.old links.old n links.new result }
+    requires lefts { length left.old ≡ set_rows }
+    requires fenced { Fenced (lent rows.now) blocks.old.ends blocks.old.boxes }
+    requires kept { Kept (lent rows.now) left.old blocks.old.lists blocks.old.ends
+        × Room (lent rows.now) left.old links.old n }
+    ensures { Picked (lent rows.now) left.old links.old n links.new result }
 {
-    let mut chain = [0u16; sizes::CHAIN];
-    let mut state = chain::State {
+    let mut chain = Chain {
+        rows: [0u16; CHAIN],
         depth: 0,
-        links: n,
-        more: true,
     };
-    while state.more {
-        state = step(
-            state, s, ns, at, left, listed, points, spot, ends, boxes, &mut chain, links,
-        );
+    let mut taken = n;
+    while let Some(m) = chain.decide(rows, left, blocks) {
+        taken = step(m, rows, left, blocks, &mut chain, links, taken);
     }
-    state.links
+    taken
 }
 
 // Lists the rows and puts boxes around them, and takes pairs until none is left; their links come after the first n.
-pub fn pick(
-    s: Spans,
-    ns: &[u32],
-    at: &[[i16; 2]],
-    left: &mut [u32],
-    links: &mut [[u32; 4]],
-    n: usize,
-) -> usize
-    requires { Sound (rows ns.now at.now s) left.old × Room (rows ns.now at.now s) left.old links.old n }
-    ensures { Picked (rows ns.now at.now s) left.old links.old n links.new result }
+pub fn pick(rows: &Rows, left: &mut [u32], links: &mut [[u32; 4]], n: usize) -> usize
+    requires { (length left.old ≡ set_rows) × Room (lent rows.now) left.old links.old n }
+    ensures { Picked (lent rows.now) left.old links.old n links.new result }
 {
-    let mut listed = [[0u32; 2]; ROWS];
-    let mut points = [[0i16; 2]; ROWS];
-    let mut spot = [0u16; ROWS];
-    let mut ends = [[0u32; 2]; BLOCKS];
-    let mut boxes = [[0i16; 4]; BLOCKS];
-    blocks::lay(
-        s.a,
-        ns,
-        at,
-        left,
-        &mut listed,
-        &mut points,
-        &mut spot,
-        &mut ends,
-        &mut boxes,
-    );
-    blocks::lay(
-        s.b,
-        ns,
-        at,
-        left,
-        &mut listed,
-        &mut points,
-        &mut spot,
-        &mut ends,
-        &mut boxes,
-    );
-    run(
-        s,
-        ns,
-        at,
-        left,
-        &mut listed,
-        &mut points,
-        &mut spot,
-        &mut ends,
-        &boxes,
-        links,
-        n,
-    )
+    let mut blocks = Blocks {
+        lists: Lists {
+            listed: [[0u32; 2]; ROWS],
+            points: [[0i16; 2]; ROWS],
+            spot: [0u16; ROWS],
+        },
+        ends: [[0u32; 2]; BLOCKS],
+        boxes: [[0i16; 4]; BLOCKS],
+    };
+    blocks.lay(rows.spans.a, rows, left);
+    blocks.lay(rows.spans.b, rows, left);
+    run(rows, left, &mut blocks, links, n)
 }

@@ -2,5 +2,5 @@
 // The places of a chain.
 pub const CHAIN: usize = 1153;
 
-// Above every key.
+// Above every key: none, to the search.
 pub const FAR: u64 = 18446744073709551615;

@@ -10,6 +10,7 @@ use std::io::Read;
 pub fn read_full<R: Read>(from: &mut R, buf: &mut [u8]) -> io::Result<usize>
     ensures { IfOk result (λ n. n ≤ length buf.new) }
 {
+    // A read gives any number of bytes, so no range counts them.
     let mut end = 0;
     while end < buf.len() {
         let n = from.read(&mut buf[end..])?;

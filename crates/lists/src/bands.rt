@@ -1,27 +1,25 @@
 // How many links have each number of binary digits in their squared distance, as bytes.
-ghost use Rattle.std.specs.Prelude.{◌≡◌, length, replicate};
-ghost use Rattle.matching.specs.Definitions.Rows.{links_in};
+ghost use Rattle.std.specs.Prelude.{◌≤◌, ◌≡◌, length, replicate};
+ghost use Rattle.matching.specs.Definitions.Sizes.{link_rows};
 ghost use Rattle.tables.specs.Definitions.Sizes.{band_count, count_size, counts_size};
 ghost use Rattle.tables.specs.Definitions.Fields.{nat_bytes};
 ghost use Rattle.tables.specs.Definitions.Rows.{flat};
 ghost use Rattle.tables.specs.Definitions.Bands.{band_bytes};
 ghost use Rattle.tables.specs.Laws.Bands.{band_counts};
-ghost use Rattle.lists.specs.Lists.{Held, distances};
+ghost use Rattle.lists.specs.Lists.{distances, links_of};
 
 use tables::bands::band;
-use tables::fields::put_two;
-use tables::sizes;
+use tables::fields::put_nat;
+use tables::sizes::{self, COUNT};
 
 // The number of links in each band.
-fn tally(links: &[[u32; 4]], n: usize, found: &mut [u32])
-    requires { Held links.now n × (found.old ≡ replicate band_count 0) }
-    ensures { found.new ≡ band_counts (distances (links_in links.now n)) }
+fn tally(links: &[[u32; 4]], found: &mut [u32])
+    requires { (length links.now ≤ link_rows) × (found.old ≡ replicate band_count 0) }
+    ensures { found.new ≡ band_counts (distances (links_of links.now)) }
 {
-    let mut i = 0;
-    while i < n {
-        let k = band(links[i][2]) as usize;
-        found[k] = found[k] + 1;
-        i += 1;
+    for link in links {
+        // usize has no From of u32.
+        found[band(link[2]) as usize] += 1;
     }
 }
 
@@ -30,19 +28,17 @@ fn put_counts(counts: &mut [u8], found: &[u32])
     requires { (length counts.old ≡ counts_size) × (length found.now ≡ band_count) }
     ensures { counts.new ≡ flat (nat_bytes count_size) found.now }
 {
-    let mut k = 0;
-    while k < sizes::BANDS {
-        put_two(counts, sizes::COUNT * k, found[k]);
-        k += 1;
+    for k in 0..sizes::BANDS {
+        put_nat::<COUNT>(counts, COUNT * k, found[k]);
     }
 }
 
-// The counts of the first `n` links.
-pub fn count_bands(links: &[[u32; 4]], n: usize, counts: &mut [u8])
-    requires { Held links.now n × (length counts.old ≡ counts_size) }
-    ensures { counts.new ≡ band_bytes (links_in links.now n) }
+// The counts of the links.
+pub fn count_bands(links: &[[u32; 4]], counts: &mut [u8])
+    requires { (length links.now ≤ link_rows) × (length counts.old ≡ counts_size) }
+    ensures { counts.new ≡ band_bytes (links_of links.now) }
 {
     let mut found = [0u32; sizes::BANDS];
-    tally(links, n, &mut found);
+    tally(links, &mut found);
     put_counts(counts, &found);
 }

@@ -6,7 +6,7 @@ use Rattle.matching.specs.Definitions.Nodes.{Unique}
 use Rattle.matching.specs.Definitions.Sizes.{node_rows, half, set_rows}
 use Rattle.matching.specs.Definitions.Rows.{size}
 use Rattle.tables.specs.Definitions.Tables.{nodes_in}
-use Rattle.load.specs.declared.table.Rows.{Rows}
+use Rattle.load.specs.Load.{Rows}
 
 -- The slots of both masters.
 abbrev pub slot_rows : ℕ

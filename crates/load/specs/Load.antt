@@ -1,15 +1,19 @@
 -- Tables in the set.
 use Rattle.std.specs.Prelude.{ℕ, zero, suc, ◌+◌, ◌-◌, ◌*◌, ◌/◌, ◌≤◌, ◌<◌, ◌≡◌, List, [], ◌∷◌, ℤ, length, set}
 use Rattle.matching.specs.declared.Range.{Range}
-use Rattle.matching.specs.declared.Sorts.{Sorts}
+use Rattle.matching.specs.Definitions.Rows.{Sorts, range, spans_of, Spanned, node_in, nodes_on}
 use Rattle.matching.specs.Definitions.Lists.{Reordered}
-use Rattle.matching.specs.Definitions.Nodes.{Master, each, Node, of_sort}
+use Rattle.matching.specs.declared.Master.{Master}
+use Rattle.matching.specs.Definitions.Nodes.{each, Node, of_sort}
 use Rattle.matching.specs.Definitions.Columns.{tabulate}
 use Rattle.matching.specs.Definitions.Sizes.{block_rows, half, set_rows}
-use Rattle.matching.specs.Definitions.Rows.{range, spans_of, Spanned, node_in, nodes_on}
 use Rattle.tables.specs.Definitions.Tables.{nodes_in}
 use Rattle.packing.specs.Packed.{Same}
-use Rattle.load.specs.declared.table.Rows.{Rows}
+use Rattle.matching.specs.declared.BySort.{BySort}
+
+-- The rows of a master by sort.
+abbrev pub Rows : Type 0
+Rows = BySort Range
 
 -- The three columns of a set have a place for each row.
 pub record Columns (ns : List ℕ) (at : List (List ℤ)) (cs : List ℕ) : Type 0 where

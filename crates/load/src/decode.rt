@@ -25,7 +25,8 @@ pub fn store(t: &[u8], k: usize, i: usize, ns: &mut [u32], at: &mut [[i16; 2]], 
     cs[i] = capacity_in(t, k);
 }
 
-// The next free row after row i was written: row i itself where its node is of another sort. No branch, since sorts follow no pattern.
+// The next free row after row i was written: row i itself where its node is of another sort. No branch, since sorts follow no
+// pattern. A sort is a number, as any byte may stand for one in a table.
 fn advance(i: usize, sort: u32, wanted: u32) -> usize
     requires { i < set_rows }
     ensures { Advanced i sort wanted result }
@@ -66,13 +67,11 @@ pub fn decode(
         ns.old at.old cs.old ns.new at.new cs.new }
 {
     let mut i = from;
-    let mut k = 0;
-    while k < NODES {
+    for k in 0..NODES {
         if row_number(t, k) == 0 {
-            return i;
+            break;
         }
         i = enter(t, sort, k, i, ns, at, cs);
-        k += 1;
     }
     i
 }

@@ -14,19 +14,16 @@ use matching::sizes::HALF;
 use matching::{Sorts, Spans};
 use table::table;
 
-// Gives the rows of each sort and master.
+// Gives the rows of each sort and master. The columns, like the heads and next rows of an index, are lent one by one: a struct
+// of them would ask more of callers, who own them apart.
 pub fn load(a: &[u8], b: &[u8], ns: &mut [u32], at: &mut [[i16; 2]], cs: &mut [u32]) -> Sorts
     requires { (length a.now ≡ table_size) × (length b.now ≡ table_size) × Columns ns.old at.old cs.old }
     ensures { Loaded a.now b.now ns.new at.new cs.new result }
 {
     let p = table(a, 0, ns, at, cs);
     let q = table(b, HALF, ns, at, cs);
-    let on_a = p.on;
-    let off_a = p.off;
-    let on_b = q.on;
-    let off_b = q.off;
     Sorts {
-        on: Spans { a: on_a, b: on_b },
-        off: Spans { a: off_a, b: off_b },
+        on: Spans { a: p.on, b: q.on },
+        off: Spans { a: p.off, b: q.off },
     }
 }

@@ -7,16 +7,12 @@ ghost use Rattle.tables.specs.Definitions.Tables.{nodes_in};
 ghost use Rattle.load.specs.Load.{Columns, Decoded, NextBlock, Whole};
 
 use crate::decode::decode;
-use matching::Range;
 use matching::sizes::BLOCK;
+use matching::{BySort, Range};
 use tables::find::count;
 
 // The rows of a master by sort.
-#[derive(Clone, Copy)]
-pub struct Rows {
-    pub on: Range,
-    pub off: Range,
-}
+pub type Rows = BySort<Range>;
 
 // The nodes of a sort in order in the rows from `from` on.
 fn place(

@@ -1,6 +1,6 @@
 -- All that the listing program prints, as a function of the bytes that it reads: a number, and then a table.
 use Rattle.std.specs.Prelude.{ℕ, ◌+◌, ◌*◌, cond, List, ◌++◌, ltb, ℤ, pos, negsuc, nat_abs, length, drop}
-use Rattle.std.proofs.Math.Option.{Option, none, some}
+use Rattle.std.specs.Prelude.{Option, None, Some}
 use Rattle.matching.specs.Definitions.Nodes.{Node}
 use Rattle.tables.specs.Definitions.Sizes.{number_size, node_rows, table_size}
 use Rattle.tables.specs.Definitions.Fields.{nat_at}
@@ -26,8 +26,8 @@ abbrev pub node_line : Node → List ℕ
 node_line v = entry (bytes "node ") v
 
 abbrev pub answer_line : Option Node → List ℕ
-answer_line none = bytes "none\n"
-answer_line (some v) = entry (bytes "found ") v
+answer_line None = bytes "none\n"
+answer_line (Some v) = entry (bytes "found ") v
 
 abbrev pub table_in : List ℕ → List ℕ
 table_in input = drop number_size input

@@ -1,5 +1,5 @@
 // The program's text, as a function of the bytes read: what a reader over the table gives.
-ghost use Rattle.std.specs.Prelude.{◌+◌, ◌*◌, ◌≤◌, ◌≡◌, nat_abs, length};
+ghost use Rattle.std.specs.Prelude.{◌+◌, ◌*◌, ◌≤◌, ◌≡◌, length};
 ghost use Rattle.tables.specs.Definitions.Sizes.{node_rows};
 ghost use Rattle.tables.specs.Definitions.Rows.{flat};
 ghost use Rattle.player.specs.Definitions.Text.{Written};
@@ -9,7 +9,7 @@ ghost use Rattle.nodes.specs.Definitions.{input_room, text_room, position, entry
 
 use player::lines::LINE;
 use player::text::{put_field, put_last, put_word};
-use reader::{Found, Node, look_up, nth_node};
+use reader::{Node, look_up};
 use tables::fields::number_at;
 use tables::sizes::{NODE_X, NODES, TABLE};
 
@@ -35,24 +35,13 @@ pub fn text_buffer() -> [u8; TEXT]
     [0; TEXT]
 }
 
-// How far a position is from 0.
-fn magnitude(z: i16) -> u32
-    ensures { result ≡ nat_abs z }
-{
-    let d = z as i32;
-    if d < 0 {
-        return (0 - d) as u32;
-    }
-    d as u32
-}
-
 // A position behind a space, with its sign.
 fn put_position(text: &mut [u8], at: usize, z: i16) -> usize
     requires { at + 12 ≤ length text.old }
     ensures written { Written text.old at (position z) text.new result }
     ensures upper_bound { result ≤ at + 12 }
 {
-    let n = magnitude(z);
+    let n = u32::from(z.unsigned_abs());
     if z < 0 {
         return put_field(text, at, b" -", n);
     }
@@ -79,13 +68,8 @@ fn put_nodes(text: &mut [u8], at: usize, t: &[u8]) -> usize
     ensures upper_bound { result ≤ at + line_room * node_rows }
 {
     let mut end = at;
-    let mut k = 0;
-    while k < NODES {
-        let Found::One(v) = nth_node(t, k) else {
-            return end;
-        };
+    for v in reader::new(t) {
         end = put_node(text, end, b"node ", v);
-        k += 1;
     }
     end
 }
@@ -96,7 +80,7 @@ fn put_answer(text: &mut [u8], at: usize, t: &[u8], n: u32) -> usize
     ensures written { Written text.old at (answer_line (numbered n (readable t.now))) text.new result }
     ensures upper_bound { result ≤ at + line_room }
 {
-    let Found::One(v) = look_up(t, n) else {
+    let Some(v) = look_up(t, n) else {
         return put_word(text, at, b"none\n");
     };
     put_node(text, at, b"found ", v)
@@ -112,6 +96,7 @@ pub fn list(input: &[u8], text: &mut [u8]) -> usize
         return put_word(text, 0, b"short\n");
     }
     let n = number_at(input, 0);
-    let end = put_nodes(text, 0, &input[NUMBER..]);
-    put_answer(text, end, &input[NUMBER..], n)
+    let table = &input[NUMBER..];
+    let end = put_nodes(text, 0, table);
+    put_answer(text, end, table, n)
 }

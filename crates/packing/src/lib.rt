@@ -14,10 +14,12 @@ pub fn arrange(r: Range, ns: &mut [u32], at: &mut [[i16; 2]], cs: &mut [u32])
     requires { Packable r ns.old at.old cs.old }
     ensures { Packed r ns.old at.old cs.old ns.new at.new cs.new }
 {
-    if r.to - r.from <= sizes::FEW {
+    let n = r.to - r.from;
+    if n <= sizes::FEW {
         return;
     }
     let mut rows = [0u16; sizes::ROWS];
-    order::order(r.from, r.to - r.from, ns, at, &mut rows);
-    settle::settle(r, &rows, ns, at, cs);
+    let rows = &mut rows[..n];
+    order::order(&ns[r.from..r.to], &at[r.from..r.to], rows);
+    settle::settle(r, rows, ns, at, cs);
 }

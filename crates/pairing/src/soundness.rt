@@ -1,69 +1,91 @@
-// The lengths and both tables, judged from the top.
+// The lengths and both tables, judged from the top; sound tables are in a set of rows then.
 ghost use Rattle.std.specs.Prelude.{◌≡◌, length};
 ghost use Rattle.tables.specs.Definitions.Sizes.{table_size};
 ghost use Rattle.tables.specs.Definitions.Tables.{first_fault};
-ghost use Rattle.matching.specs.Definitions.Nodes.{master_a, master_b};
+ghost use Rattle.matching.specs.declared.Master.TheVariants.{A as master_a, B as master_b};
 ghost use Rattle.load.specs.Index.{Indexed, Named};
 ghost use Rattle.load.specs.Laws.Loaded.{rows_in};
 ghost use Rattle.contract.specs.Definitions.Buffers.{lent, lengths_of};
 ghost use Rattle.contract.specs.Definitions.Requests.{pair_shape};
 ghost use Rattle.contract.specs.Definitions.Refusals.{lengths_right};
-ghost use Rattle.pairing.specs.Verdicts.{by_faults};
+ghost use Rattle.pairing.specs.Verdicts.{by_faults, Ready, TablesJudged};
 
-use contract::{Answer, Refusal};
+use contract::{Refusal, Refused, Verdict};
 use load::fault::fault;
+use load::index::SLOTS;
+use load::load;
 use load::table::Rows;
 use matching::Sorts;
-use tables::faults::Fault;
+use matching::sizes::ROWS;
 use tables::sizes::{LIST, TABLE};
 
+// Room for both tables in a set of rows, and for an index by number.
+#[derive(Drop)]
+pub struct Room {
+    pub ns: [u32; ROWS],
+    pub at: [[i16; 2]; ROWS],
+    pub cs: [u32; ROWS],
+    pub heads: [u16; SLOTS],
+    pub next: [u16; ROWS],
+}
+
+impl Room {
+    pub fn new() -> Room {
+        Room {
+            ns: [0; ROWS],
+            at: [[0; 2]; ROWS],
+            cs: [0; ROWS],
+            heads: [0; SLOTS],
+            next: [0; ROWS],
+        }
+    }
+
+    // Loads two tables, where they are sound. Gives the rows of each sort.
+    pub fn load(&mut self, a: &[u8], b: &[u8], list: &[u8]) -> Result<Sorts, Refused>
+        ensures { TablesJudged a.now b.now list.now (Ready a.now b.now list.now self.new.ns self.new.at self.new.cs self.new.heads self.new.next) result }
+    {
+        if !lengths_right(a, b, list) {
+            return Err(Refusal::Length.into());
+        }
+        let sorts = load(a, b, &mut self.ns, &mut self.at, &mut self.cs);
+        judge(a, b, sorts, &self.ns, &mut self.heads, &mut self.next)?;
+        Ok(sorts)
+    }
+}
+
 // The tables and the list have their stated lengths.
-pub fn lengths_right(a: &[u8], b: &[u8], list: &[u8]) -> bool
+#[tactic(auto, unfolding(contract::specs::Definitions::Refusals::lengths_right))]
+fn lengths_right(a: &[u8], b: &[u8], list: &[u8]) -> bool
     ensures { result ≡ lengths_right (lengths_of (lent a.now b.now list.now)) pair_shape }
 {
-    if a.len() != TABLE {
-        return false;
-    }
-    if b.len() != TABLE {
-        return false;
-    }
-    list.len() == LIST
+    [a.len(), b.len(), list.len()] == [TABLE, TABLE, LIST]
 }
 
 // Both tables, whose numbers are in the set; its rows are indexed.
-pub fn judge(
-    a: &[u8],
-    b: &[u8],
-    s: Sorts,
-    ns: &[u32],
-    heads: &mut [u16],
-    next: &mut [u16],
-) -> Answer
+fn judge(a: &[u8], b: &[u8], s: Sorts, ns: &[u32], heads: &mut [u16], next: &mut [u16]) -> Verdict
     requires a_len { (length a.now ≡ table_size) × (length b.now ≡ table_size) × Indexed heads.old next.old }
     requires named { Named a.now (rows_in s master_a) ns.now × Named b.now (rows_in s master_b) ns.now }
     ensures { (result ≡ by_faults (first_fault a.now) (first_fault b.now)) × Indexed heads.new next.new }
 {
-    let on_a = s.on.a;
-    let off_a = s.off.a;
     let rows_a = Rows {
-        on: on_a,
-        off: off_a,
+        on: s.on.a,
+        off: s.off.a,
     };
-    let in_a = fault(a, rows_a, ns, heads, next);
-    match in_a {
-        Fault::Row(k) => Answer::Refused(Refusal::TableA, k),
-        Fault::None => {
-            let on_b = s.on.b;
-            let off_b = s.off.b;
-            let rows_b = Rows {
-                on: on_b,
-                off: off_b,
-            };
-            let in_b = fault(b, rows_b, ns, heads, next);
-            match in_b {
-                Fault::Row(k) => Answer::Refused(Refusal::TableB, k),
-                Fault::None => Answer::Done(0),
-            }
-        }
+    if let Some(row) = fault(a, rows_a, ns, heads, next) {
+        return Err(Refused {
+            refusal: Refusal::TableA,
+            row,
+        });
     }
+    let rows_b = Rows {
+        on: s.on.b,
+        off: s.off.b,
+    };
+    if let Some(row) = fault(b, rows_b, ns, heads, next) {
+        return Err(Refused {
+            refusal: Refusal::TableB,
+            row,
+        });
+    }
+    Ok(())
 }

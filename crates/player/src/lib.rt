@@ -11,10 +11,9 @@ mod links;
 mod play;
 pub mod text;
 
-use lines::{LINE, VALUES, load_line};
+use lines::{LINE, load_line, outcome};
 use pairing::pairing_pair;
 use play::{EDITS, play};
-use tables::edits::copy_at;
 use tables::sizes::{EDIT, LINKS, LIST, TABLE};
 use text::put_word;
 
@@ -50,10 +49,10 @@ fn load(text: &mut [u8], a: &mut [u8], b: &mut [u8], list: &mut [u8], edits: &[u
 {
     let answer = pairing_pair(a, b, list);
     let end = load_line(text, 0, answer);
-    if answer / VALUES != 0 {
-        return end;
+    match outcome(answer) {
+        Ok(_) => play(text, end, a, b, list, edits),
+        Err(_) => end,
     }
-    play(text, end, a, b, list, edits)
 }
 
 // All that is printed for an input, at the front of `text`; its length.
@@ -68,7 +67,7 @@ pub fn replay(input: &[u8], text: &mut [u8]) -> usize
     let mut a = [0u8; TABLE];
     let mut b = [0u8; TABLE];
     let mut list = [0u8; LIST];
-    copy_at(&mut a, 0, &input[..TABLE]);
-    copy_at(&mut b, 0, &input[TABLE..TABLES]);
+    a.copy_from_slice(&input[..TABLE]);
+    b.copy_from_slice(&input[TABLE..TABLES]);
     load(text, &mut a, &mut b, &mut list, &input[TABLES..])
 }

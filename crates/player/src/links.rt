@@ -1,6 +1,6 @@
 // A list's links: their number and their lines.
 ghost use Rattle.std.specs.Prelude.{◌+◌, ◌*◌, ◌≤◌, ◌≡◌, length};
-ghost use Rattle.matching.specs.Definitions.Rows.{links_in};
+ghost use Rattle.lists.specs.Lists.{links_of};
 ghost use Rattle.tables.specs.Definitions.Sizes.{link_rows, list_size};
 ghost use Rattle.tables.specs.Definitions.Rows.{flat};
 ghost use Rattle.tables.specs.Definitions.Lists.{links_in as listed};
@@ -21,17 +21,15 @@ pub fn count_links(list: &[u8]) -> u32
     n as u32
 }
 
-// The lines of the first n links in rows.
-fn put_links(text: &mut [u8], at: usize, links: &[[u32; 4]], n: usize) -> usize
-    requires { (at + line_room * n ≤ length text.old) × (n ≤ length links.now) }
-    ensures written { Written text.old at (flat link_line (links_in links.now n)) text.new result }
-    ensures upper_bound { result ≤ at + line_room * n }
+// The lines of links in rows.
+fn put_links(text: &mut [u8], at: usize, links: &[[u32; 4]]) -> usize
+    requires { at + line_room * length links.now ≤ length text.old }
+    ensures written { Written text.old at (flat link_line (links_of links.now)) text.new result }
+    ensures upper_bound { result ≤ at + line_room * length links.now }
 {
     let mut end = at;
-    let mut k = 0;
-    while k < n {
-        end = link_line(text, end, links[k]);
-        k += 1;
+    for link in links {
+        end = link_line(text, end, *link);
     }
     end
 }
@@ -44,5 +42,5 @@ pub fn link_lines(text: &mut [u8], at: usize, list: &[u8]) -> usize
 {
     let mut links = [[0u32; 4]; LINKS];
     let n = read_links(list, &mut links);
-    put_links(text, at, &links, n)
+    put_links(text, at, &links[..n])
 }

@@ -42,8 +42,7 @@ fn count_edits(n: usize) -> usize
     ensures value { result ≡ playable n }
     ensures result_bound { (edit_size * result ≤ n) × (result ≤ edits_most) }
 {
-    let whole = n / EDIT;
-    if whole < EDITS { whole } else { EDITS }
+    (n / EDIT).min(EDITS)
 }
 
 fn play_edits(
@@ -62,14 +61,11 @@ fn play_edits(
         ≡ edited (drawing a.old b.old list.old) edits.now (playable (length edits.now)) }
     ensures upper_bound { result ≤ at + line_room * edits_most }
 {
-    let count = count_edits(edits.len());
     let mut end = at;
-    let mut k = 0;
-    while k < count {
+    for k in 0..count_edits(edits.len()) {
         let from = EDIT * k;
-        let to = from + EDIT;
-        end = play_edit(text, end, a, b, list, &edits[from..to], (k + 1) as u32);
-        k += 1;
+        let edit = &edits[from..from + EDIT];
+        end = play_edit(text, end, a, b, list, edit, (k + 1) as u32);
     }
     end
 }
@@ -80,12 +76,9 @@ fn left_line(text: &mut [u8], at: usize, n: usize) -> usize
     ensures written { Written text.old at (left_line n) text.new result }
     ensures upper_bound { result ≤ at + line_room }
 {
-    let whole = n / EDIT;
     let left = n % EDIT;
-    if whole < EDITS {
-        if left != 0 {
-            return put_last(text, at, b"part ", left as u32);
-        }
+    if n / EDIT < EDITS && left != 0 {
+        return put_last(text, at, b"part ", left as u32);
     }
     at
 }

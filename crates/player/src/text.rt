@@ -1,28 +1,28 @@
-// Words and numbers written into a lent text, each at a place and giving its end.
+// Words and numbers written into a lent text, each at a place and giving its end. The text and the end are no struct: callers,
+// also of other crates, lend the text alone, and a struct would have to hold the loan.
 ghost use Rattle.std.specs.Prelude.{◌+◌, ◌≤◌, length};
 ghost use Rattle.player.specs.Definitions.Text.{decimal, field, last_field, Written};
-
-use tables::edits::copy_at;
 
 pub fn put_word(text: &mut [u8], at: usize, word: &[u8]) -> usize
     requires { at + length word.now ≤ length text.old }
     ensures { Written text.old at word.now text.new result }
 {
-    copy_at(text, at, word);
-    at + word.len()
+    let end = at + word.len();
+    text[at..end].copy_from_slice(word);
+    end
 }
 
-// A number in decimal.
+// A number in decimal. By recursion, as the library prints a number into a buffer of its own, from which it had to be copied.
 fn put_decimal(text: &mut [u8], at: usize, n: u32) -> usize
     requires { at + length (decimal n) ≤ length text.old }
     ensures { Written text.old at (decimal n) text.new result }
 {
     if n < 10 {
-        text[at] = 48 + n as u8;
+        text[at] = b'0' + n as u8;
         return at + 1;
     }
     let end = put_decimal(text, at, n / 10);
-    text[end] = 48 + (n % 10) as u8;
+    text[end] = b'0' + (n % 10) as u8;
     end + 1
 }
 

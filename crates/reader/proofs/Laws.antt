@@ -2,21 +2,16 @@
 use Prim.Native.Nat.{ℕ, zero, suc, ◌+◌, ◌*◌, ◌<◌, ◌≤◌, min}
 use Rattle.std.proofs.Math.Path.{◌≡◌, refl, sym, ap}
 use Rattle.std.proofs.Common.{◌∙◌, zero-add}
-use Rattle.std.specs.Prelude.{Bool, true, false, cond, ◌&&◌, ◌||◌, List, [], ◌∷◌, eqb, length}
-use Rattle.std.proofs.Math.Option.{Option, none, some}
+use Rattle.std.specs.Prelude.{OnSome, Bool, true, false, cond, ◌&&◌, ◌||◌, List, [], ◌∷◌, eqb, length, Option, None, Some}
 use Rattle.std.proofs.Math.Decide.{ℕ_discrete, dec_lt}
 use native.Mathlib.Omega.{arith}
 use borrow.Author.Tests.{eq-eqb, ne_eqb, lt-ltb, le-ltb, le-leb, lt-leb}
 use Rattle.matching.specs.Definitions.Nodes.{Node, has, place}
 use Rattle.tables.specs.Definitions.Sizes.{node_size, node_rows, table_size}
 use Rattle.tables.specs.Definitions.Tables.{node_from, row_number, nodes_from, nodes_in, first_fault}
-use Rattle.tables.specs.Definitions.Code.{fault_of}
-use Rattle.tables.specs.declared.faults.Fault.TheVariants.{None, Row}
-use Rattle.tables.proofs.Laws.Faults.{fault_row, fault_none}
 use Rattle.tables.proofs.Laws.Accepted.{last_zero, still_zero}
 use Rattle.tables.specs.Laws.Find.{RowOf}
 use Rattle.reader.specs.declared.Node.{Node as Held}
-use Rattle.reader.specs.declared.Found.TheVariants.{Nothing, One}
 use Rattle.reader.specs.Definitions.{nth, numbered, missing, sound, refused_row, start_row, row_after, node_at, node_of, as_node, found_of}
 
 -- The row n nodes on: what is refused stays so, and reading stays in the table.
@@ -56,12 +51,12 @@ module _ (t : List ℕ) where
   unfolding sound
   sound_fault h = ap (λ (b : Bool). b && missing (first_fault t)) (eq-eqb (length t) table_size h)
 
-  -- as `fault` of tables gives it.
-  pub sound_none : length t ≡ table_size → fault_of (first_fault t) ≡ None → sound t ≡ true
-  sound_none h e = sound_fault h ∙ ap missing (fault_none (first_fault t) e)
+  -- by its first fault.
+  pub sound_none : length t ≡ table_size → first_fault t ≡ None → sound t ≡ true
+  sound_none h e = sound_fault h ∙ ap missing e
 
-  pub sound_row : (k : ℕ) → length t ≡ table_size → fault_of (first_fault t) ≡ Row k → sound t ≡ false
-  sound_row k h e = sound_fault h ∙ ap missing (fault_row (first_fault t) k e)
+  pub sound_row : (k : ℕ) → length t ≡ table_size → first_fault t ≡ Some k → sound t ≡ false
+  sound_row k h e = sound_fault h ∙ ap missing e
 
   pub start_refused : sound t ≡ false → refused_row ≡ start_row t
   unfolding start_row
@@ -73,30 +68,30 @@ module _ (t : List ℕ) where
 
   -- A row by cases.
   module _ (k : ℕ) where
-    pub node_length : (length t ≡ table_size → ⊥) → none ≡ node_at t k
+    pub node_length : (length t ≡ table_size → ⊥) → None ≡ node_at t k
     unfolding node_at
     node_length h = rw (ne_eqb (length t) table_size h)
 
     module _ (size : length t ≡ table_size) where
-      pub node_behind : node_rows ≤ k → none ≡ node_at t k
+      pub node_behind : node_rows ≤ k → None ≡ node_at t k
       unfolding node_at
       node_behind h = rw (eq-eqb (length t) table_size size, le-ltb k node_rows h)
 
-      pub node_zero : k < node_rows → row_number t k ≡ 0 → none ≡ node_at t k
+      pub node_zero : k < node_rows → row_number t k ≡ 0 → None ≡ node_at t k
       unfolding node_at
       node_zero h e = rw (eq-eqb (length t) table_size size, lt-ltb k node_rows h, eq-eqb (row_number t k) 0 e)
 
-      pub node_there : k < node_rows → (row_number t k ≡ 0 → ⊥) → some (node_from t (node_size * k)) ≡ node_at t k
+      pub node_there : k < node_rows → (row_number t k ≡ 0 → ⊥) → Some (node_from t (node_size * k)) ≡ node_at t k
       unfolding node_at
       node_there h e = rw (eq-eqb (length t) table_size size, lt-ltb k node_rows h, ne_eqb (row_number t k) 0 e)
 
   module _ (k n : ℕ) where
-    pub of_length : (length t ≡ table_size → ⊥) → none ≡ node_of t k n
+    pub of_length : (length t ≡ table_size → ⊥) → None ≡ node_of t k n
     unfolding node_of
     of_length h = rw (ne_eqb (length t) table_size h)
 
     module _ (size : length t ≡ table_size) where
-      pub of_refused : node_rows < k → none ≡ node_of t k n
+      pub of_refused : node_rows < k → None ≡ node_of t k n
       unfolding node_of
       of_refused h = rw (eq-eqb (length t) table_size size, lt-leb k node_rows h)
 
@@ -105,23 +100,23 @@ module _ (t : List ℕ) where
       of_nodes h = rw (eq-eqb (length t) table_size size, le-leb k node_rows h)
 
 -- Lists of nodes.
-pub nth_behind : (A : List Node) (j : ℕ) → length A ≤ j → nth A j ≡ none
+pub nth_behind : (A : List Node) (j : ℕ) → length A ≤ j → nth A j ≡ None
 unfolding nth
 nth_behind [] j h = refl
 nth_behind (v ∷ A) zero h = absurd (omega arith)
 nth_behind (v ∷ A) (suc j) h = nth_behind A j (omega arith)
 
 -- What a search by number gives stands at the place of the number.
-numbered-none : (n : ℕ) (A : List Node) → has n A ≡ false → numbered n A ≡ none
+numbered-none : (n : ℕ) (A : List Node) → has n A ≡ false → numbered n A ≡ None
 unfolding has numbered
 numbered-none n [] e = refl
 numbered-none n (v ∷ A) e = go (eqb v.number n) e (numbered-none n A)
   where
-    go : (b : Bool) → (b || has n A) ≡ false → (has n A ≡ false → numbered n A ≡ none) → cond b (some v) (numbered n A) ≡ none
+    go : (b : Bool) → (b || has n A) ≡ false → (has n A ≡ false → numbered n A ≡ None) → cond b (Some v) (numbered n A) ≡ None
     go true f r = absurd (let z : ◌≡◌ {A = ℕ} 0 1 = cc in omega arith)
     go false f r = r f
 
-pub numbered_empty : (n : ℕ) → numbered n [] ≡ none
+pub numbered_empty : (n : ℕ) → numbered n [] ≡ None
 unfolding numbered
 numbered_empty n = refl
 
@@ -142,12 +137,12 @@ placed n (v ∷ A) e = go (ℕ_discrete v.number n) (placed n A)
 
 module _ (t : List ℕ) (size : length t ≡ table_size) where
   -- Row by row, the nodes of a table: where they end, there is none in the row.
-  row_nth : (n k j : ℕ) → k + n ≡ node_rows → (length (nodes_from t k n) ≤ j → node_at t (k + j) ≡ none) → node_at t (k + j) ≡ nth (nodes_from t k n) j
+  row_nth : (n k j : ℕ) → k + n ≡ node_rows → (length (nodes_from t k n) ≤ j → node_at t (k + j) ≡ None) → node_at t (k + j) ≡ nth (nodes_from t k n) j
   row_nth zero k j e f = unfold nodes_from nth in f (omega arith)
   row_nth (suc n) k j e f = go (ℕ_discrete (row_number t k) 0) j f (row_nth n (suc k))
     where
-      go : Dec (row_number t k ≡ 0) → (j : ℕ) → (length (nodes_from t k (suc n)) ≤ j → node_at t (k + j) ≡ none)
-          → ((i : ℕ) → suc k + n ≡ node_rows → (length (nodes_from t (suc k) n) ≤ i → node_at t (suc k + i) ≡ none) → node_at t (suc k + i) ≡ nth (nodes_from t (suc k) n) i)
+      go : Dec (row_number t k ≡ 0) → (j : ℕ) → (length (nodes_from t k (suc n)) ≤ j → node_at t (k + j) ≡ None)
+          → ((i : ℕ) → suc k + n ≡ node_rows → (length (nodes_from t (suc k) n) ≤ i → node_at t (suc k + i) ≡ None) → node_at t (suc k + i) ≡ nth (nodes_from t (suc k) n) i)
           → node_at t (k + j) ≡ nth (nodes_from t k (suc n)) j
       go (yes d) j g r = unfold nodes_from nth in rw (eq-eqb (row_number t k) 0 d) (rw (eq-eqb (row_number t k) 0 d) at g (omega arith))
       go (no d) zero g r =
@@ -159,34 +154,50 @@ module _ (t : List ℕ) (size : length t ≡ table_size) where
           let z : k + suc i ≡ suc k + i = omega arith in
           rw (ne_eqb (row_number t k) 0 d) (ap (node_at t) z ∙ r i (omega arith) (λ l. ap (node_at t) (sym z) ∙ rw (ne_eqb (row_number t k) 0 d) at g (omega arith)))
 
-  row_place : (j : ℕ) → (length (nodes_in t) ≤ j → node_at t j ≡ none) → node_at t j ≡ nth (nodes_in t) j
+  row_place : (j : ℕ) → (length (nodes_in t) ≤ j → node_at t j ≡ None) → node_at t j ≡ nth (nodes_in t) j
   unfolding nodes_in
   row_place j f = ap (node_at t) (sym (zero-add j)) ∙ row_nth node_rows 0 j refl (λ l. ap (node_at t) (zero-add j) ∙ f l)
 
   -- A node found by its row is the one with the number.
-  pub row_numbered : (n r : ℕ) → RowOf t n r → node_at t r ≡ numbered n (nodes_in t)
-  row_numbered n r w = go (dec_lt r node_rows)
-    where
-      go : Dec (r < node_rows) → node_at t r ≡ numbered n (nodes_in t)
-      go (yes h) =
-          let p = placed n (nodes_in t) (w.known ∙ lt-ltb r node_rows h) in
-          ap (node_at t) (w.is h) ∙ row_place (place n (nodes_in t)) (λ l. absurd (omega (arith, p.within))) ∙ p.node
-      go (no h) = sym (node_behind t r size (omega arith)) ∙ sym (numbered-none n (nodes_in t) (w.known ∙ le-ltb r node_rows (omega arith)))
+  pub row_numbered : (n r : ℕ) → RowOf t n (Some r) → node_at t r ≡ numbered n (nodes_in t)
+  row_numbered n r w =
+      let p = placed n (nodes_in t) w.known in
+      ap (node_at t) w.is ∙ row_place (place n (nodes_in t)) (λ l. absurd (omega (arith, p.within))) ∙ p.node
+
+  pub row_missing : (n : ℕ) → RowOf t n None → None ≡ numbered n (nodes_in t)
+  row_missing n w = sym (numbered-none n (nodes_in t) w.known)
 
   -- A table without a fault: behind a row without a number there is no node.
-  module _ (faultless : first_fault t ≡ none) where
+  module _ (faultless : first_fault t ≡ None) where
     pub row_node : (k : ℕ) → node_at t k ≡ nth (nodes_in t) k
     row_node k = row_place k (go (dec_lt k node_rows))
       where
-        go : Dec (k < node_rows) → length (nodes_in t) ≤ k → node_at t k ≡ none
+        go : Dec (k < node_rows) → length (nodes_in t) ≤ k → node_at t k ≡ None
         go (yes h) l = sym (node_zero t k size h (still_zero t faultless (length (nodes_in t)) k l h (last_zero t (omega arith))))
         go (no h) l = sym (node_behind t k size (omega arith))
 
 -- The code's answer taken apart.
-pub found_one : (o : Option Node) (v : Held) → found_of o ≡ One v → o ≡ some (as_node v)
-found_one none v e = absurd (let z : ◌≡◌ {A = ℕ} 0 1 = cc in omega arith)
-found_one (some w) v e = let i : ◌≡◌ {A = Held} (record { number = w.number; x = w.x; y = w.y; capacity = w.capacity; sort = w.sort }) v = cc in ap (λ (u : Held). some (as_node u)) i
+pub found_one : (o : Option Node) (v : Held) → found_of o ≡ Some v → o ≡ Some (as_node v)
+found_one None v e = absurd (let z : ◌≡◌ {A = ℕ} 0 1 = cc in omega arith)
+found_one (Some w) v e = let i : ◌≡◌ {A = Held} (record { number = w.number; x = w.x; y = w.y; capacity = w.capacity; sort = w.sort }) v = cc in ap (λ (u : Held). Some (as_node u)) i
 
-pub found_nothing : (o : Option Node) → found_of o ≡ Nothing → o ≡ none
-found_nothing none e = refl
-found_nothing (some w) e = absurd (let z : ◌≡◌ {A = ℕ} 0 1 = cc in omega arith)
+pub found_nothing : (o : Option Node) → found_of o ≡ None → o ≡ None
+found_nothing None e = refl
+found_nothing (Some w) e = absurd (let z : ◌≡◌ {A = ℕ} 0 1 = cc in omega arith)
+
+-- Where there is a node, its row is one of the table's.
+module _ (t : List ℕ) (k : ℕ) where
+  found_row : (v : Held) → found_of (node_at t k) ≡ Some v → k < node_rows
+  found_row v e = go (ℕ_discrete (length t) table_size) (dec_lt k node_rows)
+    where
+      none : None ≡ node_at t k → ⊥
+      none d = let z : ◌≡◌ {A = Option Held} None (Some v) = ap found_of d ∙ e in absurd (let i : ◌≡◌ {A = ℕ} 0 1 = cc in omega arith)
+
+      go : Dec (length t ≡ table_size) → Dec (k < node_rows) → k < node_rows
+      go l (yes h) = h
+      go (yes l) (no h) = absurd (none (node_behind t k l (omega arith)))
+      go (no l) (no h) = absurd (none (node_length t k l))
+
+  pub goes_on : {P : Type 0} (r : Option Held) → r ≡ found_of (node_at t k) → (k < node_rows → P) → OnSome r P
+  goes_on None e f = tt
+  goes_on (Some v) e f = f (found_row v (sym e))

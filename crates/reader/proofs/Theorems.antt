@@ -1,9 +1,8 @@
 -- What a reader gives: by number, and from the start on.
-use Rattle.std.specs.Prelude.{ℕ, zero, suc, ◌+◌, ◌<◌, ◌≤◌, Bool, false, List, [], ◌∷◌, ◌++◌, map, eqb, length, replicate}
+use Rattle.std.specs.Prelude.{ℕ, zero, suc, ◌+◌, ◌<◌, ◌≤◌, Bool, false, List, [], ◌∷◌, ◌++◌, map, eqb, length, replicate, Option, None, Some}
 use Rattle.std.proofs.Math.Path.{◌≡◌, refl, ap}
 use Rattle.std.proofs.Common.{sym, ◌∙◌, ap₂, zero-add, add-one, arith}
 use Rattle.std.proofs.Math.Bool.{true, cond}
-use Rattle.std.proofs.Math.Option.{Option, none, some}
 use Rattle.std.proofs.Math.Decide.{ℕ_discrete, dec_lt}
 use borrow.Author.Tests.{eqb-true}
 use Rattle.matching.specs.Definitions.Nodes.{Node}
@@ -18,16 +17,16 @@ use Rattle.reader.proofs.Laws.{after_refused, after_read, after_none, after_agai
 -- A sound table, as the definition of a faulty row puts it.
 record Sound (t : List ℕ) : Type 0 where
   pub size : length t ≡ table_size
-  pub faultless : first_fault t ≡ none
+  pub faultless : first_fault t ≡ None
 
 sound_is : (t : List ℕ) → sound t ≡ true → Sound t
 sound_is t e = unfold sound in
     let s = and_split (eqb (length t) table_size) (missing (first_fault t)) e in
     record { size = eqb-true (length t) table_size s.0; faultless = go (first_fault t) s.1 }
   where
-    go : (o : Option ℕ) → missing o ≡ true → o ≡ none
-    go none e = refl
-    go (some k) e = absurd (let z : ◌≡◌ {A = ℕ} 0 1 = cc in omega arith)
+    go : (o : Option ℕ) → missing o ≡ true → o ≡ None
+    go None e = refl
+    go (Some k) e = absurd (let z : ◌≡◌ {A = ℕ} 0 1 = cc in omega arith)
 
 module _ (t : List ℕ) where
   readable-sound : sound t ≡ true → readable t ≡ nodes_in t
@@ -46,17 +45,17 @@ module _ (t : List ℕ) where
       go true e = omega (arith, ap length (readable-sound e), room t)
       go false e = omega (arith, ap length (readable_none e))
 
-  refused_node : node_at t refused_row ≡ none
+  refused_node : node_at t refused_row ≡ None
   refused_node = go (ℕ_discrete (length t) table_size)
     where
-      go : Dec (length t ≡ table_size) → node_at t refused_row ≡ none
+      go : Dec (length t ≡ table_size) → node_at t refused_row ≡ None
       go (yes e) = sym (node_behind t refused_row e (omega arith))
       go (no e) = sym (node_length t refused_row e)
 
-  refused_number : (n : ℕ) → node_of t refused_row n ≡ none
+  refused_number : (n : ℕ) → node_of t refused_row n ≡ None
   refused_number n = go (ℕ_discrete (length t) table_size)
     where
-      go : Dec (length t ≡ table_size) → node_of t refused_row n ≡ none
+      go : Dec (length t ≡ table_size) → node_of t refused_row n ≡ None
       go (yes e) = sym (of_refused t refused_row n e (omega arith))
       go (no e) = sym (of_length t refused_row n e)
 
@@ -119,28 +118,28 @@ reads-nth t (suc m) i =
     ap₂ (λ (o : Option Node) (l : List (Option Node)). o ∷ l) (read_on t i)
     (ap (λ (k : ℕ). reads t k m) (after_again (start_row t) i 1 ∙ ap (row_after (start_row t)) (add-one i)) ∙ reads-nth t m (suc i))
 
-nths_none : (m i : ℕ) → tabulate (nth []) i m ≡ replicate m none
+nths_none : (m i : ℕ) → tabulate (nth []) i m ≡ replicate m None
 unfolding tabulate nth
 nths_none zero i = refl
-nths_none (suc m) i = ap (λ (l : List (Option Node)). none ∷ l) (nths_none m (suc i))
+nths_none (suc m) i = ap (λ (l : List (Option Node)). None ∷ l) (nths_none m (suc i))
 
 nths_rest : (v : Node) (A : List Node) (m i : ℕ) → tabulate (nth (v ∷ A)) (suc i) m ≡ tabulate (nth A) i m
 unfolding tabulate nth
 nths_rest v A zero i = refl
 nths_rest v A (suc m) i = ap (λ (l : List (Option Node)). nth A i ∷ l) (nths_rest v A m (suc i))
 
-nths_more : (v : Node) (A : List Node) (m : ℕ) → tabulate (nth (v ∷ A)) 0 (suc (length A) + m) ≡ some v ∷ tabulate (nth A) 0 (length A + m)
+nths_more : (v : Node) (A : List Node) (m : ℕ) → tabulate (nth (v ∷ A)) 0 (suc (length A) + m) ≡ Some v ∷ tabulate (nth A) 0 (length A + m)
 unfolding tabulate nth
 nths_more v A m =
     let e : suc (length A) + m ≡ suc (length A + m) = omega arith in
-    ap (tabulate (nth (v ∷ A)) 0) e ∙ ap (λ (l : List (Option Node)). some v ∷ l) (nths_rest v A (length A + m) 0)
+    ap (tabulate (nth (v ∷ A)) 0) e ∙ ap (λ (l : List (Option Node)). Some v ∷ l) (nths_rest v A (length A + m) 0)
 
-nths_all : (A : List Node) (m : ℕ) → tabulate (nth A) 0 (length A + m) ≡ map some A ++ replicate m none
+nths_all : (A : List Node) (m : ℕ) → tabulate (nth A) 0 (length A + m) ≡ map Some A ++ replicate m None
 nths_all [] m = ap (tabulate (nth []) 0) (zero-add m) ∙ nths_none m 0
-nths_all (v ∷ A) m = nths_more v A m ∙ ap (λ (l : List (Option Node)). some v ∷ l) (nths_all A m)
+nths_all (v ∷ A) m = nths_more v A m ∙ ap (λ (l : List (Option Node)). Some v ∷ l) (nths_all A m)
 
 -- Reading from the start gives exactly the nodes, in row order, and then none for ever.
-pub reads_all : (t : List ℕ) (m : ℕ) → reads t (start_row t) (length (readable t) + m) ≡ map some (readable t) ++ replicate m none
+pub reads_all : (t : List ℕ) (m : ℕ) → reads t (start_row t) (length (readable t) + m) ≡ map Some (readable t) ++ replicate m None
 reads_all t m =
     ap (λ (k : ℕ). reads t k (length (readable t) + m)) (sym (after_none (start_row t)))
     ∙ reads-nth t (length (readable t) + m) 0

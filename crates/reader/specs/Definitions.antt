@@ -1,27 +1,24 @@
 -- What a reader over a table gives (document 01, 'Calls').
-use Rattle.std.specs.Prelude.{ℕ, zero, suc, ◌+◌, ◌*◌, min, Bool, true, false, cond, ◌&&◌, List, [], ◌∷◌, eqb, leb, ltb, length}
-use Rattle.std.proofs.Math.Option.{Option, none, some}
+use Rattle.std.specs.Prelude.{ℕ, zero, suc, ◌+◌, ◌*◌, min, Bool, true, false, cond, ◌&&◌, List, [], ◌∷◌, Option, None, Some, eqb, leb, ltb, length}
 use Rattle.matching.specs.Definitions.Nodes.{Node}
 use Rattle.tables.specs.Definitions.Sizes.{node_size, node_rows, table_size}
 use Rattle.tables.specs.Definitions.Tables.{node_from, row_number, nodes_in, first_fault}
 use Rattle.reader.specs.declared.Node.{Node as Held}
-use Rattle.reader.specs.declared.Found.{Found}
-use Rattle.reader.specs.declared.Found.TheVariants.{Nothing, One}
 
 -- The k-th of some nodes, from 0, and the first with the number n.
 unfoldable pub nth : List Node → ℕ → Option Node
-nth [] k = none
-nth (v ∷ A) zero = some v
+nth [] k = None
+nth (v ∷ A) zero = Some v
 nth (v ∷ A) (suc k) = nth A k
 
 unfoldable pub numbered : ℕ → List Node → Option Node
-numbered n [] = none
-numbered n (v ∷ A) = cond (eqb v.number n) (some v) (numbered n A)
+numbered n [] = None
+numbered n (v ∷ A) = cond (eqb v.number n) (Some v) (numbered n A)
 
 -- A table of the stated length without a faulty row.
 abbrev pub missing : Option ℕ → Bool
-missing none = true
-missing (some k) = false
+missing None = true
+missing (Some k) = false
 
 unfoldable pub sound : List ℕ → Bool
 sound t = eqb (length t) table_size && missing (first_fault t)
@@ -43,15 +40,15 @@ row_after k n = cond (ltb node_rows k) k (min node_rows (k + n))
 
 -- The node in row k, and the one with the number n for a reader at row k.
 unfoldable pub node_at : List ℕ → ℕ → Option Node
-node_at t k = cond (eqb (length t) table_size && ltb k node_rows) (cond (eqb (row_number t k) 0) none (some (node_from t (node_size * k)))) none
+node_at t k = cond (eqb (length t) table_size && ltb k node_rows) (cond (eqb (row_number t k) 0) None (Some (node_from t (node_size * k)))) None
 
 unfoldable pub node_of : List ℕ → ℕ → ℕ → Option Node
-node_of t k n = cond (eqb (length t) table_size && leb k node_rows) (numbered n (nodes_in t)) none
+node_of t k n = cond (eqb (length t) table_size && leb k node_rows) (numbered n (nodes_in t)) None
 
 -- The code's own node as the definitions have it, and its answer, by cases.
 abbrev pub as_node : Held → Node
 as_node v = record { number = v.number; x = v.x; y = v.y; capacity = v.capacity; sort = v.sort }
 
-abbrev pub found_of : Option Node → Found
-found_of none = Nothing
-found_of (some v) = One (record { number = v.number; x = v.x; y = v.y; capacity = v.capacity; sort = v.sort })
+abbrev pub found_of : Option Node → Option Held
+found_of None = None
+found_of (Some v) = Some (record { number = v.number; x = v.x; y = v.y; capacity = v.capacity; sort = v.sort })

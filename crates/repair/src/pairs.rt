@@ -1,94 +1,75 @@
-// Pairs of a row with a surplus and a row of the other master: their distance, the row with the surplus and the other one, as one number.
-ghost use Rattle.std.specs.Prelude.{◌<◌, ◌≡◌, length};
+// Pairs of a row with a surplus, its owner, and a row of the other master, its partner; and the order of the links.
+ghost use Rattle.std.specs.Prelude.{◌<◌};
 ghost use Rattle.matching.specs.Definitions.Sizes.{set_rows};
 
-use crate::nearest::Near;
-use crate::sizes;
-use matching::sizes::ROWS;
+use matching::Set;
 
-// The pair of row t and the row of n; none where there is no such row.
-pub fn pair(t: usize, n: Near) -> u64
-    requires { (t < set_rows) × (n.row < set_rows) }
-{
-    if n.key == sizes::NONE {
-        return sizes::NONE;
+// A place in the order of the links: a distance, A's number and B's number.
+pub type Order = (u32, u32, u32);
+
+#[derive(Clone, Copy)]
+pub struct Pair {
+    pub distance: u32,
+    owner: u16,
+    partner: u16,
+    ghost owned: { owner < set_rows },
+    ghost partnered: { partner < set_rows },
+}
+
+impl Pair {
+    pub fn new(distance: u32, owner: usize, partner: usize) -> Pair
+        requires { (owner < set_rows) × (partner < set_rows) }
+    {
+        Pair {
+            distance,
+            owner: owner as u16,
+            partner: partner as u16,
+        }
     }
-    matching::pack(
-        matching::distance(n.key),
-        ((t as u64) * sizes::WIDTH + (n.row as u64)) as u32,
-    )
-}
 
-// The row in some bits of a pair; it is one of the set, so that the second remainder changes nothing.
-fn row(bits: u64) -> usize
-    ensures { result < set_rows }
-{
-    (bits % sizes::WIDTH) as usize % ROWS
-}
-
-// The row with the surplus.
-pub fn owner(p: u64) -> usize
-    ensures { result < set_rows }
-{
-    row(p / sizes::WIDTH)
-}
-
-// The other row.
-pub fn partner(p: u64) -> usize
-    ensures { result < set_rows }
-{
-    row(p)
-}
-
-// Of two rows of different masters the lesser is A's,
-pub fn light(t: usize, w: usize) -> usize
-    requires { (t < set_rows) × (w < set_rows) }
-    ensures { result < set_rows }
-{
-    if t < w { t } else { w }
-}
-
-// and the greater B's.
-pub fn bold(t: usize, w: usize) -> usize
-    requires { (t < set_rows) × (w < set_rows) }
-    ensures { result < set_rows }
-{
-    if t < w { w } else { t }
-}
-
-// A pair as a link that takes nothing.
-fn link(p: u64, ns: &[u32]) -> [u32; 4]
-    requires { length ns.now ≡ set_rows }
-{
-    let t = owner(p);
-    let w = partner(p);
-    let i = light(t, w);
-    let j = bold(t, w);
-    [ns[i], ns[j], matching::distance(p), 0]
-}
-
-// Whether link p comes before link q.
-fn ahead(p: [u32; 4], q: [u32; 4]) -> bool {
-    matching::is_earlier(p[2], p[0], p[1], q[2], q[0], q[1])
-}
-
-// Whether link p comes before pair q.
-pub fn is_before(p: [u32; 4], q: u64, ns: &[u32]) -> bool
-    requires { length ns.now ≡ set_rows }
-{
-    let d = matching::distance(q);
-    if p[2] != d {
-        return p[2] < d;
+    // The row with the surplus.
+    pub fn owner(self) -> usize
+        ensures { result < set_rows }
+    {
+        usize::from(self.owner)
     }
-    ahead(p, link(q, ns))
+
+    // The other row.
+    pub fn partner(self) -> usize
+        ensures { result < set_rows }
+    {
+        usize::from(self.partner)
+    }
+
+    // Of two rows of different masters the lesser is A's,
+    pub fn light(self) -> usize
+        ensures { result < set_rows }
+    {
+        self.owner().min(self.partner())
+    }
+
+    // and the greater B's.
+    pub fn bold(self) -> usize
+        ensures { result < set_rows }
+    {
+        self.owner().max(self.partner())
+    }
+
+    // Its place among the links.
+    pub fn order(self, set: &Set) -> Order {
+        (self.distance, set.ns[self.light()], set.ns[self.bold()])
+    }
 }
 
-// Whether pair p comes before pair q.
-pub fn is_earlier(p: u64, q: u64, ns: &[u32]) -> bool
-    requires { length ns.now ≡ set_rows }
-{
-    if matching::distance(p) != matching::distance(q) {
-        return p < q;
-    }
-    ahead(link(p, ns), link(q, ns))
+// What a row with a surplus would link to: its candidate, the pair with the nearest row that has something left, and its runner-up,
+// that with the next nearest.
+#[derive(Clone, Copy)]
+pub struct Choice {
+    pub candidate: Pair,
+    pub runner_up: Option<Pair>,
+}
+
+// The place of a link.
+pub fn order(link: [u32; 4]) -> Order {
+    (link[2], link[0], link[1])
 }

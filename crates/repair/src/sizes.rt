@@ -7,20 +7,8 @@ pub const ADVANCE: usize = 32;
 
 pub const SHARE: usize = 4;
 
-// More than it may cost.
-pub const LIMIT: usize = 8192;
-
 // Rows with a surplus that are looked at for a unit.
 pub const LOOK: usize = 16;
 
 // The turns of a repair.
 pub const TURNS: usize = 8192;
-
-// No key and no pair is as great.
-pub const NONE: u64 = 18446744073709551615;
-
-// What the first row of a pair is multiplied by.
-pub const WIDTH: u64 = 2048;
-
-// A bit for every row of a block.
-pub const FULL: u32 = 4294967295;

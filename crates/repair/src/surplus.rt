@@ -1,177 +1,116 @@
 // The rows with a surplus: they have something left, and had nothing left at the same place of the links before the edit.
-// Each has a row of pairs: its candidate, the pair with the nearest row that has something left, and its runner-up, that with the next nearest.
-ghost use Rattle.std.specs.Prelude.{◌<◌, ◌≤◌, ◌≡◌, length};
-ghost use Rattle.matching.specs.Definitions.Sizes.{set_rows, set_blocks};
+ghost use Rattle.std.specs.Prelude.{◌<◌, ◌≤◌};
+ghost use Rattle.matching.specs.Definitions.Sizes.{set_rows};
 ghost use Rattle.repair.specs.Sizes.{surplus_rows};
-ghost use Rattle.repair.specs.State.{Each, Boxed, Counted, Fair};
 
-use crate::cost::{charge, give_up};
-use crate::run::Run;
-use crate::{nearest, pairs, sizes};
-use matching::Sorts;
+use crate::pairs::{Choice, Pair};
+use crate::rest::Rest;
+use crate::{nearest, sizes};
+use matching::Set;
 
-// The earliest candidate; none where no row has a surplus.
-pub fn candidate(run: Run, surplus: &[[u64; 2]]) -> u64
-    requires { Fair run × (length surplus.now ≡ surplus_rows) }
-{
-    if run.rows == 0 {
-        return sizes::NONE;
-    }
-    let e = run.first;
-    surplus[e][0]
+// What the rows would link to, how many they are, the place of the earliest candidate, and what the searches have cost.
+#[derive(Drop)]
+pub struct Surplus {
+    pub choices: [Choice; sizes::SURPLUS],
+    pub rows: usize,
+    pub first: usize,
+    pub cost: usize,
+    ghost most: { rows ≤ surplus_rows },
+    ghost kept: { first < surplus_rows },
 }
 
-// Of the places e and i the one with the earlier candidate.
-fn earlier(e: usize, i: usize, ns: &[u32], surplus: &[[u64; 2]]) -> usize
-    requires { (e < surplus_rows) × (i < surplus_rows) × (length ns.now ≡ set_rows) × (length surplus.now ≡ surplus_rows) }
-    ensures { result < surplus_rows }
-{
-    if pairs::is_earlier(surplus[i][0], surplus[e][0], ns) {
-        return i;
+impl Surplus {
+    // The earliest candidate.
+    pub fn candidate(&self) -> Option<Pair> {
+        if self.rows == 0 {
+            return None;
+        }
+        Some(self.choices[self.first].candidate)
     }
-    e
-}
 
-// The place of the earliest of n candidates.
-fn earliest(n: usize, ns: &[u32], surplus: &[[u64; 2]]) -> usize
-    requires { (n ≤ surplus_rows) × (length ns.now ≡ set_rows) × (length surplus.now ≡ surplus_rows) }
-    ensures { result < surplus_rows }
-{
-    let mut e = 0;
-    let mut i = 1;
-    while i < n {
-        e = earlier(e, i, ns, surplus);
-        i += 1;
+    fn charge(&mut self, cost: usize) {
+        self.cost = self.cost.saturating_add(cost);
     }
-    e
-}
 
-// The candidates have changed: the earliest is looked for.
-fn find_earliest(run: Run, ns: &[u32], surplus: &[[u64; 2]]) -> Run
-    requires { Fair run × (length ns.now ≡ set_rows) × (length surplus.now ≡ surplus_rows) }
-    ensures { Fair result }
-{
-    let mut r = charge(run, run.rows / sizes::LOOK + 1);
-    r.first = earliest(run.rows, ns, surplus);
-    r
-}
+    // Of the places e and i the one with the earlier candidate.
+    fn earlier(&self, e: usize, i: usize, set: &Set) -> usize
+        requires { (e < surplus_rows) × (i < surplus_rows) }
+        ensures { result < surplus_rows }
+    {
+        if self.choices[i].candidate.order(set) < self.choices[e].candidate.order(set) {
+            return i;
+        }
+        e
+    }
 
-// Row t has a surplus; its search begins with the block of row `near`.
-pub fn enter(
-    run: Run,
-    t: usize,
-    near: usize,
-    s: Sorts,
-    ns: &[u32],
-    at: &[[i16; 2]],
-    blocks: &[[u32; 2]],
-    boxes: &[[i16; 4]],
-    surplus: &mut [[u64; 2]],
-) -> Run
-    requires { Fair run × (t < set_rows) × Each ns.now at.now s × (length blocks.now ≡ set_blocks) × Boxed boxes.now
-        × (length surplus.old ≡ surplus_rows) }
-    ensures { Fair result }
-{
-    let n = run.rows;
-    if n >= sizes::SURPLUS {
-        return give_up(run);
+    // The candidates have changed: the earliest is looked for.
+    fn find_earliest(&mut self, set: &Set) {
+        self.charge(self.rows / sizes::LOOK + 1);
+        let mut e = 0;
+        for i in 1..self.rows {
+            e = self.earlier(e, i, set);
+        }
+        self.first = e;
     }
-    let f = nearest::partners(t, near, s, ns, at, blocks, boxes);
-    let mut r = charge(run, 2 * f.scans + 1);
-    let two = f.two;
-    let p = pairs::pair(t, two.first);
-    if p == sizes::NONE {
-        return r;
-    }
-    surplus[n] = [p, pairs::pair(t, two.second)];
-    r.rows = n + 1;
-    if n == 0 {
-        r.first = 0;
-        return r;
-    }
-    r.first = earlier(run.first, n, ns, surplus);
-    r
-}
 
-// The row of the earliest candidate has no surplus any more: the last one takes its place.
-fn remove(run: Run, ns: &[u32], surplus: &mut [[u64; 2]]) -> Run
-    requires { Fair run × (length ns.now ≡ set_rows) × (length surplus.old ≡ surplus_rows) }
-    ensures { Fair result }
-{
-    let n = run.rows;
-    if n == 0 {
-        return run;
+    // Row t has a surplus; its search begins with the block of row `near`. Nothing where there is no room for it.
+    pub fn enter(&mut self, t: usize, near: usize, set: &Set, rest: &Rest) -> Option<()>
+        requires { t < set_rows }
+    {
+        let n = self.rows;
+        if n >= sizes::SURPLUS {
+            return None;
+        }
+        let (choice, cost) = nearest::partners(t, near, set, rest);
+        self.charge(cost);
+        let Some(choice) = choice else {
+            return Some(());
+        };
+        self.choices[n] = choice;
+        self.rows = n + 1;
+        self.first = if n == 0 {
+            0
+        } else {
+            self.earlier(self.first, n, set)
+        };
+        Some(())
     }
-    let e = run.first;
-    surplus[e] = surplus[n - 1];
-    let mut r = run;
-    r.rows = n - 1;
-    find_earliest(r, ns, surplus)
-}
 
-// The row whose candidate p was the earliest looks for another candidate and another runner-up.
-fn replace(
-    run: Run,
-    p: u64,
-    s: Sorts,
-    ns: &[u32],
-    at: &[[i16; 2]],
-    blocks: &[[u32; 2]],
-    boxes: &[[i16; 4]],
-    surplus: &mut [[u64; 2]],
-) -> Run
-    requires { Fair run × Each ns.now at.now s × (length blocks.now ≡ set_blocks)
-        × Boxed boxes.now × (length surplus.old ≡ surplus_rows) }
-    ensures { Fair result }
-{
-    let e = run.first;
-    let t = pairs::owner(p);
-    let f = nearest::partners(t, pairs::partner(p), s, ns, at, blocks, boxes);
-    let r = charge(run, 2 * f.scans + 1);
-    let two = f.two;
-    let q = pairs::pair(t, two.first);
-    if q == sizes::NONE {
-        return remove(r, ns, surplus);
+    // The row of the earliest candidate has no surplus any more: the last one takes its place.
+    fn remove(&mut self, set: &Set) {
+        let Some(n) = self.rows.checked_sub(1) else {
+            return;
+        };
+        self.choices[self.first] = self.choices[n];
+        self.rows = n;
+        self.find_earliest(set);
     }
-    surplus[e] = [q, pairs::pair(t, two.second)];
-    find_earliest(r, ns, surplus)
-}
 
-// Whether the other row of pair p has something left.
-fn is_open(p: u64, left: &[[u32; 2]]) -> bool
-    requires { length left.now ≡ set_rows }
-{
-    if p == sizes::NONE {
-        return false;
+    // The row whose candidate p was the earliest looks for another candidate and another runner-up.
+    fn replace(&mut self, p: Pair, set: &Set, rest: &Rest) {
+        let (choice, cost) = nearest::partners(p.owner(), p.partner(), set, rest);
+        self.charge(cost);
+        let Some(choice) = choice else {
+            return self.remove(set);
+        };
+        self.choices[self.first] = choice;
+        self.find_earliest(set);
     }
-    let w = pairs::partner(p);
-    left[w][1] != 0
-}
 
-// The earliest candidate p is taken, or its rows have nothing left: the runner-up follows it, or the row looks for another, or has no surplus any more.
-pub fn advance(
-    run: Run,
-    p: u64,
-    s: Sorts,
-    ns: &[u32],
-    at: &[[i16; 2]],
-    left: &[[u32; 2]],
-    blocks: &[[u32; 2]],
-    boxes: &[[i16; 4]],
-    surplus: &mut [[u64; 2]],
-) -> Run
-    requires { Fair run × Each ns.now at.now s × Counted left.now blocks.now × Boxed boxes.now × (length surplus.old ≡ surplus_rows) }
-    ensures { Fair result }
-{
-    let e = run.first;
-    let t = pairs::owner(p);
-    if left[t][1] == 0 {
-        return remove(run, ns, surplus);
+    // The earliest candidate p is taken, or its rows have nothing left: the runner-up follows it, or the row looks for another, or has no surplus any more.
+    pub fn advance(&mut self, p: Pair, set: &Set, rest: &Rest) {
+        if rest.rows[p.owner()].has == 0 {
+            return self.remove(set);
+        }
+        if let Some(q) = self.choices[self.first].runner_up {
+            if rest.rows[q.partner()].has != 0 {
+                self.choices[self.first] = Choice {
+                    candidate: q,
+                    runner_up: None,
+                };
+                return self.find_earliest(set);
+            }
+        }
+        self.replace(p, set, rest);
     }
-    let q = surplus[e][1];
-    if is_open(q, left) {
-        surplus[e] = [q, sizes::NONE];
-        return find_earliest(run, ns, surplus);
-    }
-    replace(run, p, s, ns, at, blocks, boxes, surplus)
 }

@@ -1,24 +1,16 @@
--- Limits by which no pair blocks, and what is asked of links and limits.
-use Rattle.std.specs.Prelude.{ℕ, ◌≤◌, ◌≡◌, List, [], ℤ, length, get_or}
+-- Limits by which no pair blocks.
+use Rattle.std.specs.Prelude.{ℕ, ◌≡◌, List, [], ℤ, length, get_or}
 use Rattle.std.proofs.Common.{arith}
-use Rattle.matching.specs.declared.Sorts.{Sorts}
-use Rattle.matching.specs.Definitions.Nodes.{Master, master_a, master_b}
-use Rattle.matching.specs.Definitions.Rows.{Fits, spans_of, On, gap}
-use Rattle.matching.specs.Definitions.Sizes.{link_rows, set_rows}
+use Rattle.matching.specs.Definitions.Rows.{Sorts, spans_of, On, gap}
+use Rattle.matching.specs.declared.Master.{Master}
+use Rattle.matching.specs.declared.Master.TheVariants.{A as master_a, B as master_b}
+use Rattle.matching.specs.Definitions.Sizes.{set_rows}
 use Rattle.stability.specs.Blocking.{Blocking, Stable}
 
 -- Limits of all rows by which no pair of one sort blocks.
 pub record Barred (ns : List ℕ) (at : List (List ℤ)) (S : Sorts) (L : List ℕ) : Type 0 where
   pub room : length L ≡ set_rows
   pub stable : (t : ℕ) → Stable ns at L L (spans_of S t).a (spans_of S t).b
-
--- What is to be checked: a set of rows, n links, and limits.
-pub record Asked (ns : List ℕ) (at : List (List ℤ)) (cs : List ℕ) (S : Sorts) (L P : List (List ℕ)) (n : ℕ) (K : List ℕ) : Type 0 where
-  pub fit : Fits ns at cs S
-  pub links : n ≤ length L
-  pub places : n ≤ length P
-  pub most : n ≤ link_rows
-  pub barred : Barred ns at S K
 
 -- Limits of 0 bar every pair.
 pub barred_fresh : {ns : List ℕ} {at : List (List ℤ)} {S : Sorts} {L : List ℕ} → length L ≡ set_rows

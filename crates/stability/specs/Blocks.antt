@@ -1,11 +1,11 @@
 -- Blocks of rows that follow each other: what a block knows of each of its rows.
-use Rattle.std.specs.Prelude.{ℕ, ◌+◌, ◌*◌, ◌≤◌, ◌<◌, min, List, [], ℤ, get_or}
+use Rattle.std.specs.Prelude.{ℕ, ◌+◌, ◌*◌, ◌≤◌, ◌<◌, List, [], ℤ, get_or}
 use Rattle.matching.specs.declared.Range.{Range}
 use Rattle.matching.specs.Definitions.Rows.{x_at, y_at}
 use Rattle.matching.specs.Definitions.Sizes.{block_rows}
 use Rattle.boxes.specs.Boxes.{In, Inner}
 use Rattle.stability.specs.declared.blocks.Block.{Block}
-use Rattle.stability.specs.Ranges.{RowOf}
+use Rattle.stability.specs.Ranges.{RowOf, part}
 
 -- A row at (u, v) with number n and limit l is in the block.
 pub record Holds (b : Block) (u v : ℤ) (n l : ℕ) : Type 0 where
@@ -17,10 +17,6 @@ pub record Holds (b : Block) (u v : ℤ) (n l : ℕ) : Type 0 where
 pub record Encloses (ns : List ℕ) (at : List (List ℤ)) (L : List ℕ) (r : Range) (b : Block) : Type 0 where
   pub inner : Inner b.bounds
   pub holds : (k : ℕ) → RowOf r k → Holds b (x_at at k) (y_at at k) (get_or ns k 0) (get_or L k 0)
-
--- The rows of block g of a range.
-abbrev pub part : Range → ℕ → Range
-part r g = record { from = r.from + g * block_rows; to = min (r.from + g * block_rows + block_rows) r.to }
 
 -- A block without rows.
 abbrev pub none : Block

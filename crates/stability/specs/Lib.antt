@@ -8,3 +8,4 @@ pub mod Limits
 pub mod Later
 pub mod Blocks
 pub mod Lanes
+pub mod Sides

@@ -1,10 +1,9 @@
 -- Limits: the key at and past which a row takes no pair. What links show by themselves, before the pairs that they lack are looked at.
 use Rattle.std.specs.Prelude.{ℕ, ◌≤◌, ◌<◌, ◌≡◌, List, [], ℤ, length, get_or}
-use Rattle.matching.specs.declared.Sorts.{Sorts}
-use Rattle.matching.specs.Definitions.Nodes.{Master}
+use Rattle.matching.specs.Definitions.Rows.{Sorts, spans_of, On, link_in, links_in}
+use Rattle.matching.specs.declared.Master.{Master}
 use Rattle.matching.specs.Definitions.Pairs.{number_in}
 use Rattle.matching.specs.Definitions.Links.{pair_of, used}
-use Rattle.matching.specs.Definitions.Rows.{spans_of, On, link_in, links_in}
 use Rattle.matching.specs.Definitions.Sizes.{set_rows}
 use Rattle.stability.specs.Sizes.{free}
 use Rattle.stability.specs.Links.{Stands, Ordered, key_of}

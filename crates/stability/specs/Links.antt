@@ -1,11 +1,12 @@
 -- Links in rows: where their nodes stand, and what they take of them.
 use Rattle.std.specs.Prelude.{ℕ, ◌+◌, ◌≤◌, ◌<◌, ◌≡◌, List, [], ℤ, length, get_or, set}
 use Rattle.matching.specs.declared.Spans.{Spans}
-use Rattle.matching.specs.declared.Sorts.{Sorts}
-use Rattle.matching.specs.Definitions.Nodes.{Master, master_a, master_b, each}
+use Rattle.matching.specs.Definitions.Rows.{Sorts, spans_of, On, gap, key, link_in, links_in}
+use Rattle.matching.specs.declared.Master.{Master}
+use Rattle.matching.specs.declared.Master.TheVariants.{A as master_a, B as master_b}
+use Rattle.matching.specs.Definitions.Nodes.{each}
 use Rattle.matching.specs.Definitions.Pairs.{number_in, Before}
 use Rattle.matching.specs.Definitions.Links.{Link, pair_of, used}
-use Rattle.matching.specs.Definitions.Rows.{Fits, spans_of, On, gap, key, link_in, links_in}
 use Rattle.matching.specs.Definitions.Sizes.{set_rows}
 
 -- A link's nodes stand in rows i and j of the ranges s, as far apart as it says.
@@ -36,9 +37,8 @@ pub record Spent (cs : List ℕ) (m k i : ℕ) (taken last taken' last' : List �
   pub amount : taken' ≡ set taken i (get_or taken i 0 + m)
   pub kept : last' ≡ set last i k
 
--- A set of rows, room for what is taken of them and for keys.
-pub record Ready (ns : List ℕ) (at : List (List ℤ)) (cs : List ℕ) (S : Sorts) (taken last : List ℕ) : Type 0 where
-  pub fit : Fits ns at cs S
+-- Room for what is taken of a set's rows and for keys.
+pub record Ready (cs taken last : List ℕ) : Type 0 where
   pub room : (length taken ≡ set_rows) × (length last ≡ set_rows)
   pub within : Within cs taken
 

@@ -1,11 +1,10 @@
 -- Ranges of rows.
-use Rattle.std.specs.Prelude.{ℕ, ◌+◌, ◌≤◌, ◌<◌, ◌≡◌, ◌⊎◌, List, ℤ, length, get_or}
+use Rattle.std.specs.Prelude.{ℕ, ◌+◌, ◌*◌, min, ◌≤◌, ◌<◌, ◌≡◌, ◌⊎◌, List, ℤ, length, get_or}
 use Rattle.matching.specs.declared.Range.{Range}
 use Rattle.matching.specs.declared.Spans.{Spans}
-use Rattle.matching.specs.declared.Sorts.{Sorts}
+use Rattle.matching.specs.Definitions.Rows.{Sorts, x_at, y_at}
 use Rattle.matching.specs.Definitions.Columns.{Inside}
-use Rattle.matching.specs.Definitions.Rows.{x_at, y_at}
-use Rattle.matching.specs.Definitions.Sizes.{node_rows, set_rows}
+use Rattle.matching.specs.Definitions.Sizes.{node_rows, set_rows, block_rows}
 
 -- Row k is one of the range's.
 abbrev pub RowOf : Range → ℕ → Type 0
@@ -18,6 +17,10 @@ OfSpans s k = RowOf s.a k ⊎ RowOf s.b k
 -- It is one of either sort's.
 abbrev pub OfSorts : Sorts → ℕ → Type 0
 OfSorts S k = OfSpans S.on k ⊎ OfSpans S.off k
+
+-- The rows of block g of a range.
+abbrev pub part : Range → ℕ → Range
+part r g = record { from = r.from + g * block_rows; to = min (r.from + g * block_rows + block_rows) r.to }
 
 -- A range of a set whose rows have a number and a position inside each.
 pub record Ranged (ns : List ℕ) (at : List (List ℤ)) (r : Range) : Type 0 where

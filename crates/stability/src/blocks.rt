@@ -1,14 +1,14 @@
 // Blocks of rows that follow each other: a row that is past a whole block, and two blocks that are apart, are told without a look at the blocks' rows.
-ghost use Rattle.std.specs.Prelude.{ℕ, ◌+◌, ◌*◌, ◌≤◌, ◌<◌, ◌≡◌, true, ℤ, length, get_or};
+ghost use Rattle.std.specs.Prelude.{ℕ, ◌≤◌, ◌<◌, ◌≡◌, true, ℤ, length, get_or};
 ghost use Rattle.matching.specs.Definitions.Pairs.{squared_distance};
 ghost use Rattle.matching.specs.Definitions.Columns.{Inside};
 ghost use Rattle.matching.specs.Definitions.Rows.{across, upward};
-ghost use Rattle.matching.specs.Definitions.Sizes.{set_rows, block_rows};
 ghost use Rattle.boxes.specs.Boxes.{Inner};
-ghost use Rattle.stability.specs.Ranges.{RowOf, Ruled};
+ghost use Rattle.stability.specs.Ranges.{RowOf};
 ghost use Rattle.stability.specs.Blocking.{Blocks};
-ghost use Rattle.stability.specs.Blocks.{Holds, Encloses, part as part_of, Surveyed};
+ghost use Rattle.stability.specs.Blocks.{Holds, Encloses, Surveyed};
 
+use super::rows::Rows;
 use crate::sizes;
 use matching::{Range, pack};
 
@@ -20,123 +20,79 @@ pub struct Block {
     pub limit: u64,
 }
 
-// The rows of block g of a range.
-pub fn part(r: Range, g: usize) -> Range
-    requires { (r.from + g * block_rows < r.to) × (r.to ≤ set_rows) }
-    ensures { result ≡ part_of r g }
-{
-    let first = r.from + g * matching::sizes::BLOCK;
-    if r.to - first < matching::sizes::BLOCK {
-        return Range {
-            from: first,
-            to: r.to,
-        };
-    }
-    Range {
-        from: first,
-        to: first + matching::sizes::BLOCK,
-    }
-}
-
-fn lesser(m: u32, n: u32) -> u32
-    ensures { (result ≤ m) × (result ≤ n) }
-{
-    if m < n { m } else { n }
-}
-
-fn greater(k: u64, l: u64) -> u64
-    ensures { (k ≤ result) × (l ≤ result) }
-{
-    if k < l { l } else { k }
-}
-
 // The least number of the range's rows.
 fn least(ns: &[u32], r: Range) -> u32
-    requires { (r.from < r.to) × (r.to ≤ length ns.now) }
+    requires { (r.from ≤ r.to) × (r.to ≤ length ns.now) }
     ensures { (k : ℕ) → RowOf r k → result ≤ get_or ns.now k 0 }
 {
-    let mut k = r.from;
-    let mut n = ns[k];
-    while k < r.to {
-        n = lesser(n, ns[k]);
-        k += 1;
+    let mut least = u32::MAX;
+    for k in r.from..r.to {
+        least = least.min(ns[k]);
     }
-    n
+    least
 }
 
 // The greatest limit of the range's rows.
 fn limit(limits: &[u64], r: Range) -> u64
-    requires { r.to ≤ length limits.now }
+    requires { (r.from ≤ r.to) × (r.to ≤ length limits.now) }
     ensures { (k : ℕ) → RowOf r k → get_or limits.now k 0 ≤ result }
 {
-    let mut l = 0;
-    let mut k = r.from;
-    while k < r.to {
-        l = greater(l, limits[k]);
-        k += 1;
+    let mut limit = 0u64;
+    for k in r.from..r.to {
+        limit = limit.max(limits[k]);
     }
-    l
+    limit
 }
 
-// The block of the range's rows.
-pub fn enclose(ns: &[u32], at: &[[i16; 2]], limits: &[u64], r: Range) -> Block
-    requires { Ruled ns.now at.now limits.now r × (r.from < r.to) }
-    ensures { Encloses ns.now at.now limits.now r result }
-{
-    let bounds = boxes::around(at, r.from, r.to);
-    Block {
-        bounds: bounds,
-        least: least(ns, r),
-        limit: limit(limits, r),
+impl Block {
+    // The block of the rows.
+    pub fn enclose(rows: Rows) -> Block
+        requires { rows.range.from < rows.range.to }
+        ensures { Encloses rows.entry.ns.now rows.entry.at.now rows.entry.limits.now rows.entry.range result }
+    {
+        Block {
+            bounds: boxes::around(rows.at, rows.range.from, rows.range.to),
+            least: least(rows.ns, rows.range),
+            limit: limit(rows.limits, rows.range),
+        }
+    }
+
+    // A node at p with number n and limit l is past the block: each pair with a row of it is at or past l, or each is at or past the row's limit.
+    pub fn is_past(self, p: [i16; 2], n: u32, l: u64) -> bool
+        requires { Inside (across p) (upward p) × Inner self.bounds }
+        ensures { result ≡ true → (u v : ℤ) (m k : ℕ) → Holds self u v m k → ¬ Blocks (squared_distance (across p) (upward p) u v) n l m k }
+    {
+        if pack(0, self.least) >= l {
+            return true;
+        }
+        let d = boxes::clearance(p, self.bounds);
+        pack(d, self.least) >= l || pack(d, n) >= self.limit
+    }
+
+    // Two blocks are apart: each pair of their rows is at or past the limit of its row of this one, or each is at or past that of its row of the other.
+    pub fn is_apart(self, other: Block) -> bool
+        requires { Inner self.bounds × Inner other.bounds }
+        ensures { result ≡ true → (x y u v : ℤ) (n l m k : ℕ) → Holds self x y n l → Holds other u v m k
+            → ¬ Blocks (squared_distance x y u v) n l m k }
+    {
+        let d = boxes::gap(self.bounds, other.bounds);
+        pack(d, other.least) >= self.limit || pack(d, self.least) >= other.limit
     }
 }
 
-// The blocks of the range.
-pub fn survey(ns: &[u32], at: &[[i16; 2]], limits: &[u64], r: Range) -> [Block; sizes::BLOCKS]
-    requires { Ruled ns.now at.now limits.now r }
-    ensures { Surveyed ns.now at.now limits.now r result }
+// The blocks of the rows.
+pub fn survey(rows: Rows) -> [Block; sizes::BLOCKS]
+    ensures { Surveyed rows.entry.ns.now rows.entry.at.now rows.entry.limits.now rows.entry.range result }
 {
+    // Rows without blocks: no heap, so the array has room for the most blocks of a range.
     let none = Block {
-        bounds: [0, 0, 0, 0],
+        bounds: [0; 4],
         least: 0,
         limit: 0,
     };
     let mut blocks = [none; sizes::BLOCKS];
-    let mut g = 0;
-    while r.from + g * matching::sizes::BLOCK < r.to {
-        blocks[g] = enclose(ns, at, limits, part(r, g));
-        g += 1;
+    for g in 0..rows.blocks() {
+        blocks[g] = Block::enclose(rows.part(g));
     }
     blocks
-}
-
-// A node at p with number n and limit l is past the block: each pair with a row of it is at or past l, or each is at or past the row's limit.
-pub fn is_past(p: [i16; 2], n: u32, l: u64, b: Block) -> bool
-    requires { Inside (across p) (upward p) × Inner b.bounds }
-    ensures { result ≡ true → (u v : ℤ) (m k : ℕ) → Holds b u v m k → ¬ Blocks (squared_distance (across p) (upward p) u v) n l m k }
-{
-    if pack(0, b.least) >= l {
-        return true;
-    }
-    let bounds = b.bounds;
-    let d = boxes::clearance(p, bounds);
-    if pack(d, b.least) >= l {
-        return true;
-    }
-    pack(d, n) >= b.limit
-}
-
-// Two blocks are apart: each pair of their rows is at or past the limit of its row of b, or each is at or past that of its row of c.
-pub fn apart(b: Block, c: Block) -> bool
-    requires { Inner b.bounds × Inner c.bounds }
-    ensures { result ≡ true → (x y u v : ℤ) (n l m k : ℕ) → Holds b x y n l → Holds c u v m k
-        → ¬ Blocks (squared_distance x y u v) n l m k }
-{
-    let p = b.bounds;
-    let q = c.bounds;
-    let d = boxes::gap(p, q);
-    if pack(d, c.least) >= b.limit {
-        return true;
-    }
-    pack(d, b.least) >= c.limit
 }

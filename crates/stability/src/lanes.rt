@@ -1,15 +1,27 @@
 // A block's rows copied into arrays, so that LLVM knows how often a loop over them runs.
-ghost use Rattle.std.specs.Prelude.{ℕ, ◌%◌, ◌≤◌, ◌<◌, ◌≡◌, length};
-ghost use Rattle.matching.specs.Definitions.Sizes.{set_rows, block_rows, number_range};
-ghost use Rattle.stability.specs.Lanes.{row_of, Sized, Lanes};
+ghost use Rattle.std.specs.Prelude.{◌%◌, ◌≤◌, ◌<◌, ◌≡◌};
+ghost use Rattle.matching.specs.Definitions.Sizes.{block_rows, number_range, set_rows};
+ghost use Rattle.stability.specs.Lanes.{row_of, Copied};
 
-use matching::{Range, sizes};
+use super::rows::Rows;
+use matching::Range;
+use matching::sizes::{BLOCK, RANGE};
+
+// Each lane's number, position, and limit as a distance and a number.
+#[derive(Drop)]
+pub struct Lanes {
+    pub numbers: [u32; BLOCK],
+    pub x: [i16; BLOCK],
+    pub y: [i16; BLOCK],
+    pub far: [u32; BLOCK],
+    pub high: [u32; BLOCK],
+}
 
 // The number in a key.
 pub fn number(key: u64) -> u32
     ensures { result ≡ key % number_range }
 {
-    (key % sizes::RANGE) as u32
+    (key % RANGE) as u32
 }
 
 // The row of lane k: a block that has no such row repeats its last one, and with it pairs that are looked at anyway.
@@ -17,37 +29,33 @@ fn row(k: usize, r: Range) -> usize
     requires { (k < block_rows) × (r.from < r.to) × (r.to ≤ set_rows) }
     ensures { (result < r.to) × (result ≡ row_of r k) }
 {
-    let i = r.from + k;
-    if i < r.to { i } else { r.to - 1 }
+    (r.from + k).min(r.to - 1)
 }
 
-// Copies the rows of the range.
-pub fn fill(
-    r: Range,
-    ns: &[u32],
-    at: &[[i16; 2]],
-    limits: &[u64],
-    cn: &mut [u32],
-    cx: &mut [i16],
-    cy: &mut [i16],
-    cf: &mut [u32],
-    ch: &mut [u32],
-)
-    requires in_set { (r.from < r.to) × (r.to ≤ set_rows) × (length ns.now ≡ set_rows)
-        × (length at.now ≡ set_rows) × (length limits.now ≡ set_rows) }
-    requires sized { Sized cn.old cx.old cy.old cf.old ch.old }
-    ensures still_sized { Sized cn.new cx.new cy.new cf.new ch.new }
-    ensures lanes { Lanes ns.now at.now limits.now r
-        cn.new cx.new cy.new cf.new ch.new block_rows }
-{
-    let mut k = 0;
-    while k < sizes::BLOCK {
-        let i = row(k, r);
-        cn[k] = ns[i];
-        cx[k] = at[i][0];
-        cy[k] = at[i][1];
-        cf[k] = matching::distance(limits[i]);
-        ch[k] = number(limits[i]);
-        k += 1;
+impl Lanes {
+    // Lanes to fill.
+    pub fn new() -> Lanes {
+        Lanes {
+            numbers: [0; BLOCK],
+            x: [0; BLOCK],
+            y: [0; BLOCK],
+            far: [0; BLOCK],
+            high: [0; BLOCK],
+        }
+    }
+
+    // Copies the rows.
+    pub fn fill(&mut self, rows: Rows)
+        requires { rows.range.from < rows.range.to }
+        ensures { Copied rows.entry.ns.now rows.entry.at.now rows.entry.limits.now rows.entry.range self.new block_rows }
+    {
+        for k in 0..BLOCK {
+            let i = row(k, rows.range);
+            self.numbers[k] = rows.ns[i];
+            self.x[k] = rows.at[i][0];
+            self.y[k] = rows.at[i][1];
+            self.far[k] = matching::distance(rows.limits[i]);
+            self.high[k] = number(rows.limits[i]);
+        }
     }
 }

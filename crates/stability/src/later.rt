@@ -17,10 +17,8 @@ pub fn only_later(r: Range, old: &[u64], new: &[u64], e: &mut [u64])
     requires { (r.from ≤ r.to) × (r.to ≤ length old.now) × (r.to ≤ length new.now) × (r.to ≤ length e.old) }
     ensures { Filled (RowOf r) (λ i _ l. Later (get_or old.now i 0) (get_or new.now i 0) l) e.old e.new }
 {
-    let mut i = r.from;
-    while i < r.to {
+    for i in r.from..r.to {
         e[i] = later(old[i], new[i]);
-        i += 1;
     }
 }
 
@@ -28,10 +26,7 @@ pub fn only_later(r: Range, old: &[u64], new: &[u64], e: &mut [u64])
 fn moved(old: u64, new: u64) -> bool
     ensures { result ≡ true → Moved old new }
 {
-    if new == 0 {
-        return true;
-    }
-    old < new
+    new == 0 || old < new
 }
 
 // Each row has a later limit, or one that takes no pair.
@@ -39,12 +34,10 @@ pub fn all(r: Range, old: &[u64], new: &[u64]) -> bool
     requires { (r.to ≤ length old.now) × (r.to ≤ length new.now) }
     ensures { result ≡ true → (i : ℕ) → RowOf r i → Moved (get_or old.now i 0) (get_or new.now i 0) }
 {
-    let mut i = r.from;
-    while i < r.to {
+    for i in r.from..r.to {
         if !moved(old[i], new[i]) {
             return false;
         }
-        i += 1;
     }
     true
 }

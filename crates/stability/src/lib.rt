@@ -4,47 +4,49 @@
 
 mod blocking;
 mod blocks;
+mod bounded;
+mod change;
 mod lanes;
 mod later;
 mod limits;
 mod links;
 mod passes;
+mod rows;
 mod sizes;
 mod spread;
 
-ghost use Rattle.std.specs.Prelude.{◌≡◌, true};
-ghost use Rattle.matching.specs.Definitions.Nodes.{master_a, master_b};
+ghost use Rattle.std.specs.Prelude.{ℕ, ◌<◌, ◌≤◌, ◌≡◌, true, length, get_or};
+ghost use Rattle.matching.specs.declared.Master.TheVariants.{A as master_a, B as master_b};
 ghost use Rattle.matching.specs.Definitions.Join.{join};
 ghost use Rattle.matching.specs.Definitions.Rows.{nodes_of, links_in};
-ghost use Rattle.stability.specs.Barred.{Barred, Asked};
+ghost use Rattle.matching.specs.Definitions.Sizes.{number_range};
+ghost use Rattle.stability.specs.Barred.{Barred};
 
-use matching::Sorts;
+use matching::Set;
 
-// True only where the first n links are the join of the masters' nodes; `places` has the rows where the links' nodes are said to stand.
+// A column's numbers fit, as the type of its rows says: the fact, and no code.
+fn numbers_fit(ns: &[u32])
+    ensures { (k : ℕ) → get_or ns.now k 0 < number_range }
+{}
+
+// True only where the links are the join of the masters' nodes; `places` has the rows where the links' nodes are said to stand.
 // The limits that are lent become those of the links where these are the join.
-pub fn verify(
-    ns: &[u32],
-    at: &[[i16; 2]],
-    cs: &[u32],
-    s: Sorts,
-    links: &[[u32; 4]],
-    places: &[[u16; 2]],
-    n: usize,
-    limits: &mut [u64],
-) -> bool
-    requires { Asked ns.now at.now cs.now s links.now places.now n limits.old }
-    ensures { (result ≡ true → links_in links.now n
-        ≡ join (nodes_of s ns.now at.now cs.now master_a) (nodes_of s ns.now at.now
-        cs.now master_b)) × Barred ns.now at.now s limits.new }
+pub fn verify(set: Set, links: &[[u32; 4]], places: &[[u16; 2]], limits: &mut [u64]) -> bool
+    requires { (length links.now ≤ length places.now) × Barred set.ns.now set.at.now set.sorts limits.old }
+    ensures { (result ≡ true → links_in links.now (length links.now)
+        ≡ join (nodes_of set.entry.sorts set.entry.ns.now set.entry.at.now set.entry.cs.now master_a)
+        (nodes_of set.entry.sorts set.entry.ns.now set.entry.at.now set.entry.cs.now master_b))
+        × Barred set.entry.ns.now set.entry.at.now set.entry.sorts limits.new }
 {
-    let mut next = [0u64; matching::sizes::ROWS];
-    if !links::hold(ns, at, cs, s, links, places, n, &mut next) {
+    numbers_fit(set.ns);
+    let mut next = [0; matching::sizes::ROWS];
+    if !links::hold(set, links, places, &mut next) {
         return false;
     }
-    if passes::any_alike(ns, at, limits, &next, s) {
+    if passes::any_alike(set.ns, set.at, limits, &next, set.sorts) {
         return false;
     }
-    limits::copy_both(s.on, &next, limits);
-    limits::copy_both(s.off, &next, limits);
+    limits::copy_both(set.sorts.on, &next, limits);
+    limits::copy_both(set.sorts.off, &next, limits);
     true
 }

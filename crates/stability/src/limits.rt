@@ -12,10 +12,7 @@ use matching::{Range, Spans};
 fn limit(capacity: u32, taken: u32, last: u64) -> u64
     ensures { Limit capacity taken last result }
 {
-    if taken == capacity {
-        return last;
-    }
-    sizes::FREE
+    if taken == capacity { last } else { sizes::FREE }
 }
 
 // The limits of the range's rows, in place of the keys of their last links.
@@ -24,14 +21,12 @@ fn note(r: Range, cs: &[u32], taken: &[u32], last: &mut [u64])
     ensures { Filled (RowOf r) (λ i k l. Limit (get_or cs.now i 0) (get_or taken.now i 0) k l)
         last.old last.new }
 {
-    let mut i = r.from;
-    while i < r.to {
+    for i in r.from..r.to {
         last[i] = limit(cs[i], taken[i], last[i]);
-        i += 1;
     }
 }
 
-// The same of a sort's rows, of both masters.
+// The same of a sort's rows, of both masters. One function for this and `copy_both` would take a closure whose own contract is longer than their two lines.
 pub fn note_both(s: Spans, cs: &[u32], taken: &[u32], last: &mut [u64])
     requires { Spanned s × (length cs.now ≡ set_rows) × (length taken.now ≡ set_rows) × (length last.old ≡ set_rows) }
     ensures { Filled (OfSpans s) (λ i k l. Limit (get_or cs.now i 0) (get_or taken.now i 0) k l)
@@ -46,11 +41,7 @@ fn copy(r: Range, from: &[u64], to: &mut [u64])
     requires { (r.from ≤ r.to) × (r.to ≤ length from.now) × (r.to ≤ length to.old) }
     ensures { Filled (RowOf r) (λ i _ l. l ≡ get_or from.now i 0) to.old to.new }
 {
-    let mut i = r.from;
-    while i < r.to {
-        to[i] = from[i];
-        i += 1;
-    }
+    to[r.from..r.to].copy_from_slice(&from[r.from..r.to]);
 }
 
 // The same of a sort's rows, of both masters.

@@ -7,6 +7,5 @@ pub mod Faultless
 pub mod Faults
 pub mod ListCode
 pub mod Puts
-pub mod Ranges
 pub mod Search
 pub mod Tables

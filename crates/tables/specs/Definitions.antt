@@ -6,4 +6,3 @@ pub mod Tables
 pub mod Lists
 pub mod Edits
 pub mod Bands
-pub mod Code

@@ -5,17 +5,50 @@ ghost use Rattle.tables.specs.Definitions.Rows.{put};
 ghost use Rattle.tables.specs.Definitions.Tables.{capacity_good};
 ghost use Rattle.tables.specs.Definitions.Edits.{kind_of, master_of, number_of, capacity_field, positions_zero, positions_good};
 ghost use Rattle.tables.specs.Definitions.Edits.{edit_fields, closed, edit_table};
-ghost use Rattle.tables.specs.Laws.Changes.{change_of, Applies};
+ghost use Rattle.tables.specs.Laws.Changes.{change_of, Names, Reads, Applies};
 
 use super::{fields, rows, sizes};
+use matching::Master;
 
 // What an edit asks for.
-#[derive(Clone, Copy)]
+#[derive(Clone, Copy, PartialEq, Eq)]
 pub enum Change {
     Arrival,
     Departure,
     Move,
     Capacity,
+}
+
+// A byte that is no kind of edit.
+#[derive(Clone, Copy, PartialEq, Eq)]
+pub struct UnknownKind(pub u8);
+
+impl TryFrom<u8> for Change {
+    type Error = UnknownKind;
+
+    ghost try_from_gives = { Reads };
+
+    #[tactic(auto, unfolding(crate::specs::Laws::Changes::change_of))]
+    fn try_from(kind: u8) -> Result<Self, UnknownKind> {
+        match kind {
+            1 => Ok(Change::Arrival),
+            2 => Ok(Change::Departure),
+            3 => Ok(Change::Move),
+            4 => Ok(Change::Capacity),
+            _ => Err(UnknownKind(kind)),
+        }
+    }
+}
+
+// The master that a byte names.
+pub fn master(byte: u8) -> Option<Master>
+    ensures { Names byte result }
+{
+    match byte {
+        0 => Some(Master::A),
+        1 => Some(Master::B),
+        _ => None,
+    }
 }
 
 // The byte that says its kind.
@@ -35,6 +68,7 @@ pub fn master_of(edit: &[u8]) -> u8
 }
 
 // The number of its node.
+#[tactic(auto, unfolding(crate::specs::Definitions::Edits::number_of))]
 pub fn number_of(edit: &[u8]) -> u32
     requires { length edit.now ≡ edit_size }
     ensures { result ≡ number_of edit.now }
@@ -55,6 +89,7 @@ pub fn fields_right(c: Change, edit: &[u8]) -> bool
     }
 }
 
+#[tactic(auto, unfolding(crate::specs::Definitions::Edits::positions_zero))]
 fn positions_zero(edit: &[u8]) -> bool
     requires { length edit.now ≡ edit_size }
     ensures { result ≡ positions_zero edit.now }
@@ -62,6 +97,7 @@ fn positions_zero(edit: &[u8]) -> bool
     fields::two_at(edit, sizes::EDIT_X) == 0 && fields::two_at(edit, sizes::EDIT_Y) == 0
 }
 
+#[tactic(auto, unfolding(crate::specs::Definitions::Edits::positions_good))]
 fn positions_good(edit: &[u8]) -> bool
     requires { length edit.now ≡ edit_size }
     ensures { result ≡ positions_good edit.now }
@@ -69,6 +105,7 @@ fn positions_good(edit: &[u8]) -> bool
     rows::position_good_at(edit, sizes::EDIT_X) && rows::position_good_at(edit, sizes::EDIT_Y)
 }
 
+#[tactic(auto, unfolding(crate::specs::Definitions::Edits::capacity_field))]
 fn capacity_zero(edit: &[u8]) -> bool
     requires { length edit.now ≡ edit_size }
     ensures { result ≡ eqb (capacity_field edit.now) 0 }
@@ -76,6 +113,7 @@ fn capacity_zero(edit: &[u8]) -> bool
     fields::two_at(edit, sizes::EDIT_CAPACITY) == 0
 }
 
+#[tactic(auto, unfolding(crate::specs::Definitions::Edits::capacity_field))]
 fn capacity_good(edit: &[u8]) -> bool
     requires { length edit.now ≡ edit_size }
     ensures { result ≡ capacity_good (capacity_field edit.now) }
@@ -108,11 +146,7 @@ pub fn copy_at(t: &mut [u8], at: usize, from: &[u8])
     requires { at + length from.now ≤ length t.old }
     ensures { t.new ≡ put t.old at from.now }
 {
-    let mut j = 0;
-    while j < from.len() {
-        t[at + j] = from[j];
-        j += 1;
-    }
+    t[at..at + from.len()].copy_from_slice(from);
 }
 
 // Row k taken out: the later rows move up by one, and the last becomes zero.
@@ -121,11 +155,6 @@ fn close_row(t: &mut [u8], k: usize)
     ensures { t.new ≡ closed t.old k }
 {
     let last = sizes::TABLE - sizes::NODE;
-    let mut i = sizes::NODE * k;
-    while i < last {
-        t[i] = t[i + sizes::NODE];
-        i += 1;
-    }
-    let zeros = [0u8; sizes::NODE];
-    copy_at(t, last, &zeros);
+    t.copy_within(sizes::NODE * (k + 1).., sizes::NODE * k);
+    t[last..].fill(0);
 }

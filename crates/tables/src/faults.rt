@@ -3,18 +3,12 @@
 ghost use Rattle.std.specs.Prelude.{◌*◌, ◌<◌, ◌≤◌, ◌≡◌, length};
 ghost use Rattle.tables.specs.Definitions.Sizes.{node_rows, table_size};
 ghost use Rattle.tables.specs.Definitions.Tables.{row_number, stands_before, faulty, first_fault};
-ghost use Rattle.tables.specs.Definitions.Code.{fault_of};
 
 use super::fields::number_at;
 use super::rows::{fields_good, fields_zero};
 use super::sizes::{NODE, NODES};
 
-#[derive(Clone, Copy)]
-pub enum Fault {
-    None,
-    Row(u16),
-}
-
+#[tactic(auto, unfolding(crate::specs::Definitions::Tables::row_number))]
 pub fn row_number(t: &[u8], k: usize) -> u32
     requires { (length t.now ≡ table_size) × (k < node_rows) }
     ensures { result ≡ row_number t.now k }
@@ -27,9 +21,7 @@ fn stands_before(t: &[u8], k: usize, n: u32) -> bool
     requires { (length t.now ≡ table_size) × (k ≤ node_rows) }
     ensures { result ≡ stands_before t.now k n }
 {
-    let mut j = k;
-    while 0 < j {
-        j -= 1;
+    for j in 0..k {
         if row_number(t, j) == n {
             return true;
         }
@@ -37,6 +29,7 @@ fn stands_before(t: &[u8], k: usize, n: u32) -> bool
     false
 }
 
+#[tactic(auto, unfolding(crate::specs::Definitions::Tables::faulty))]
 fn row_faulty(t: &[u8], k: usize) -> bool
     requires { (length t.now ≡ table_size) × (k < node_rows) }
     ensures { result ≡ faulty t.now k }
@@ -45,25 +38,19 @@ fn row_faulty(t: &[u8], k: usize) -> bool
     if n == 0 {
         return !fields_zero(t, NODE * k);
     }
-    if !fields_good(t, NODE * k) {
-        return true;
-    }
-    if stands_before(t, k, n) {
-        return true;
-    }
-    stands_before(t, k, 0)
+    !fields_good(t, NODE * k) || stands_before(t, k, n) || stands_before(t, k, 0)
 }
 
-pub fn first_fault(t: &[u8]) -> Fault
+// The first faulty row, or none.
+pub fn first_fault(t: &[u8]) -> Option<u16>
     requires { length t.now ≡ table_size }
-    ensures { result ≡ fault_of (first_fault t.now) }
+    ensures { result ≡ first_fault t.now }
 {
-    let mut k = 0;
-    while k < NODES {
+    for k in 0..NODES {
         if row_faulty(t, k) {
-            return Fault::Row(k as u16);
+            // A row fits two bytes: try_from would only test it again.
+            return Some(k as u16);
         }
-        k += 1;
     }
-    Fault::None
+    None
 }

@@ -14,33 +14,29 @@ pub fn count(t: &[u8]) -> usize
     requires { length t.now ≡ table_size }
     ensures { (result ≡ length (nodes_in t.now)) × (result ≤ node_rows) }
 {
-    let mut k = 0;
-    while k < NODES {
+    for k in 0..NODES {
         if row_number(t, k) == 0 {
             return k;
         }
-        k += 1;
     }
-    k
+    NODES
 }
 
-// The row of the node with the number n, or the number of rows where there is none.
-pub fn row_of(t: &[u8], n: u32) -> usize
+// The row of the first node with the number n, where there is one.
+pub fn row_of(t: &[u8], n: u32) -> Option<usize>
     requires { length t.now ≡ table_size }
     ensures { RowOf t.now n result }
 {
-    let mut k = 0;
-    while k < NODES {
+    for k in 0..NODES {
         let m = row_number(t, k);
         if m == 0 {
-            return NODES;
+            return None;
         }
         if m == n {
-            return k;
+            return Some(k);
         }
-        k += 1;
     }
-    k
+    None
 }
 
 // The capacity field in row k.
@@ -52,6 +48,7 @@ fn field_in(t: &[u8], k: usize) -> u32
 }
 
 // The capacity in row k.
+#[tactic(auto, unfolding(crate::specs::Definitions::Tables::node_from))]
 pub fn capacity_in(t: &[u8], k: usize) -> u32
     requires { (length t.now ≡ table_size) × (k < node_rows) }
     ensures { result ≡ (node_from t.now (node_size * k)).capacity }
@@ -60,6 +57,7 @@ pub fn capacity_in(t: &[u8], k: usize) -> u32
 }
 
 // The sort in row k.
+#[tactic(auto, unfolding(crate::specs::Definitions::Tables::node_from))]
 pub fn sort_in(t: &[u8], k: usize) -> u32
     requires { (length t.now ≡ table_size) × (k < node_rows) }
     ensures { result ≡ (node_from t.now (node_size * k)).sort }

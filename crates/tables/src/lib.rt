@@ -3,7 +3,6 @@
 #![tactic(auto)]
 
 pub mod bands;
-pub mod compare;
 pub mod edits;
 pub mod faults;
 pub mod fields;

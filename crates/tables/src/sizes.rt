@@ -23,7 +23,13 @@ pub const MOST_SORT: u32 = 1;
 // The capacity field: below this the capacity, its multiples the sort.
 pub const BYTE_END: u32 = 256;
 
-// A link: A number, B number, squared distance, amount. The list: so many rows of these.
+// A link: A number, B number, squared distance, amount, and their widths. The list: so many rows of these.
+pub const NUMBER: usize = 2;
+
+pub const DISTANCE: usize = 4;
+
+pub const AMOUNT: usize = 2;
+
 pub const LINK_B: usize = 2;
 
 pub const LINK_DISTANCE: usize = 4;

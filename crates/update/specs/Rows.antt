@@ -1,31 +1,40 @@
 -- What single rows of the set are before and after, the rows of one sort, and those of one master.
-use Rattle.std.specs.Prelude.{ℕ, ◌+◌, ◌-◌, ◌*◌, ◌≤◌, ◌<◌, ◌≡◌, List, [], ◌∷◌, ℤ, length, get_or}
+use Rattle.std.specs.Prelude.{ℕ, ◌+◌, ◌-◌, ◌*◌, ◌≤◌, ◌<◌, ◌≡◌, List, [], ◌∷◌, Option, Some, None, ℤ, length, get_or}
 use Rattle.matching.specs.declared.Range.{Range}
-use Rattle.matching.specs.declared.Sorts.{Sorts}
+use Rattle.matching.specs.Definitions.Rows.{Sorts, range, spans_of, node_in}
 use Rattle.matching.specs.Definitions.Lists.{Reordered}
-use Rattle.matching.specs.Definitions.Nodes.{Master, Node, Unique, of_sort}
+use Rattle.matching.specs.declared.Master.{Master}
+use Rattle.matching.specs.Definitions.Nodes.{Node, Unique, of_sort}
 use Rattle.matching.specs.Definitions.Edits.{depart}
 use Rattle.matching.specs.Definitions.Columns.{tabulate}
-use Rattle.matching.specs.Definitions.Rows.{range, spans_of, node_in}
 use Rattle.matching.specs.Definitions.Sizes.{node_rows, set_rows}
 use Rattle.tables.specs.Definitions.Sizes.{node_size, table_size}
 use Rattle.tables.specs.Definitions.Tables.{node_from, nodes_in}
 use Rattle.stability.specs.Barred.{Patched}
-use Rattle.load.specs.declared.table.Rows.{Rows}
-use Rattle.load.specs.Load.{Columns, rows_of}
+use Rattle.load.specs.Load.{Rows, Columns, rows_of}
 
 -- Row k is the first of the range with the number z, or its end where none has it.
-pub record Found (r : Range) (ns : List ℕ) (z k : ℕ) : Type 0 where
+pub record First (r : Range) (ns : List ℕ) (z k : ℕ) : Type 0 where
   pub low : r.from ≤ k
   pub high : k ≤ r.to
   pub is : k < r.to → get_or ns k 0 ≡ z
   pub before : (j : ℕ) → r.from ≤ j → j < k → get_or ns j 0 ≡ z → ⊥
 
--- Row k of the table t has the node with the number z, which is of the sort u; or none of the sort has the number.
-pub record RowIn (t : List ℕ) (z u k : ℕ) : Type 0 where
-  pub sort : k < node_rows → (node_from t (node_size * k)).sort ≡ u
-  pub first : k < node_rows → Reordered (of_sort u (nodes_in t)) (node_from t (node_size * k) ∷ depart z (of_sort u (nodes_in t)))
-  pub none : node_rows ≤ k → depart z (of_sort u (nodes_in t)) ≡ of_sort u (nodes_in t)
+-- The first row with it, where there is one.
+abbrev pub Found : Range → List ℕ → ℕ → Option ℕ → Type 0
+Found r ns z None = First r ns z r.to
+Found r ns z (Some k) = First r ns z k × (k < r.to)
+
+-- Row k of the table t has the node with the number z, which is of the sort u.
+pub record NodeRow (t : List ℕ) (z u k : ℕ) : Type 0 where
+  pub within : k < node_rows
+  pub sort : (node_from t (node_size * k)).sort ≡ u
+  pub first : Reordered (of_sort u (nodes_in t)) (node_from t (node_size * k) ∷ depart z (of_sort u (nodes_in t)))
+
+-- The row of that node, or that no node of the sort has the number.
+abbrev pub RowIn : List ℕ → ℕ → ℕ → Option ℕ → Type 0
+RowIn t z u None = depart z (of_sort u (nodes_in t)) ≡ of_sort u (nodes_in t)
+RowIn t z u (Some k) = NodeRow t z u k
 
 -- The nodes of the rows from first to end.
 abbrev pub nodes_between : ℕ → ℕ → ℕ → List ℕ → List (List ℤ) → List ℕ → List Node

@@ -1,11 +1,11 @@
 -- A set of rows beside tables of which one was edited.
 use Rattle.std.specs.Prelude.{ℕ, ◌≤◌, ◌≡◌, cond, List, eqb, ℤ, length}
-use Rattle.matching.specs.declared.Sorts.{Sorts}
+use Rattle.matching.specs.Definitions.Rows.{Sorts, spans_of, nodes_on, Fits, Represents}
 use Rattle.matching.specs.Definitions.Lists.{Reordered}
-use Rattle.matching.specs.Definitions.Nodes.{Master, master_a, master_b, each, of_sort}
+use Rattle.matching.specs.declared.Master.{Master}
+use Rattle.matching.specs.declared.Master.TheVariants.{A as master_a, B as master_b}
+use Rattle.matching.specs.Definitions.Nodes.{each, of_sort}
 use Rattle.matching.specs.Definitions.Edits.{depart}
-use Rattle.matching.specs.Definitions.Sizes.{link_rows}
-use Rattle.matching.specs.Definitions.Rows.{spans_of, nodes_on, Fits, Represents}
 use Rattle.tables.specs.Definitions.Sizes.{table_size, edit_size}
 use Rattle.tables.specs.Definitions.Tables.{nodes_in, GoodNodes}
 use Rattle.tables.specs.Definitions.Edits.{master_of, number_of}
@@ -30,7 +30,6 @@ pub record Edited (a b e ns : List ℕ) (at : List (List ℤ)) (cs : List ℕ) (
   pub barred : Barred ns at S L
 
 -- The rows are the tables' nodes again.
-pub record Updated (a b ns : List ℕ) (at : List (List ℤ)) (cs : List ℕ) (S : Sorts) (L : List ℕ) (P : List (List ℕ)) : Type 0 where
+pub record Updated (a b ns : List ℕ) (at : List (List ℤ)) (cs : List ℕ) (S : Sorts) (L : List ℕ) : Type 0 where
   pub rows : Represents (nodes_in a) (nodes_in b) ns at cs S
   pub barred : Barred ns at S L
-  pub places : length P ≡ link_rows

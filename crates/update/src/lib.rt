@@ -4,16 +4,16 @@
 mod node;
 mod rows;
 
-ghost use Rattle.std.specs.Prelude.{◌≤◌, ◌≡◌, length};
-ghost use Rattle.matching.specs.Definitions.Sizes.{link_rows};
+ghost use Rattle.std.specs.Prelude.{◌≡◌, length};
 ghost use Rattle.update.specs.Update.{Edited, Updated};
 
 use load::table::Rows;
-use matching::{Sorts, Spans};
+use matching::{Master, Sorts, Spans};
 use node::update_node;
 use tables::edits::{master_of, number_of};
 
-// Gives the rows of each sort and master. The edited row's limit becomes 0; of n links the places of a row that had to move are put right.
+// Gives the rows of each sort and master. The edited row's limit becomes 0; the places of a row that had to move are put right.
+// Columns, limits and places are lent one by one: a struct of them would ask more of callers, who own them apart.
 pub fn update(
     a: &[u8],
     b: &[u8],
@@ -24,39 +24,31 @@ pub fn update(
     cs: &mut [u32],
     limits: &mut [u64],
     places: &mut [[u16; 2]],
-    n: usize,
 ) -> Sorts
-    requires { Edited a.now b.now edit.now ns.old at.old cs.old s limits.old × (length places.old ≡ link_rows) × (n ≤ link_rows) }
-    ensures { Updated a.now b.now ns.new at.new cs.new result
-        limits.new places.new }
+    requires { Edited a.now b.now edit.now ns.old at.old cs.old s limits.old }
+    ensures { Updated a.now b.now ns.new at.new cs.new result limits.new
+        × (length places.new ≡ length places.old) }
 {
     let z = number_of(edit);
-    let on_a = s.on.a;
-    let off_a = s.off.a;
-    let on_b = s.on.b;
-    let off_b = s.off.b;
+    // By its byte, which `Edited` speaks of: of an edit that was performed it is 0 or 1, and a `Master` made of it would add a case that is never met.
     if master_of(edit) == 0 {
         let m = Rows {
-            on: on_a,
-            off: off_a,
+            on: s.on.a,
+            off: s.off.a,
         };
-        let r = update_node(a, z, m, 0, ns, at, cs, limits, places, n);
-        let on = r.on;
-        let off = r.off;
+        let r = update_node(a, z, m, Master::A, ns, at, cs, limits, places);
         return Sorts {
-            on: Spans { a: on, b: on_b },
-            off: Spans { a: off, b: off_b },
+            on: Spans { a: r.on, ..s.on },
+            off: Spans { a: r.off, ..s.off },
         };
     }
     let m = Rows {
-        on: on_b,
-        off: off_b,
+        on: s.on.b,
+        off: s.off.b,
     };
-    let r = update_node(b, z, m, 1, ns, at, cs, limits, places, n);
-    let on = r.on;
-    let off = r.off;
+    let r = update_node(b, z, m, Master::B, ns, at, cs, limits, places);
     Sorts {
-        on: Spans { a: on_a, b: on },
-        off: Spans { a: off_a, b: off },
+        on: Spans { b: r.on, ..s.on },
+        off: Spans { b: r.off, ..s.off },
     }
 }

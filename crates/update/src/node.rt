@@ -1,7 +1,6 @@
 // The rows of one master after a node of its table changed.
-ghost use Rattle.std.specs.Prelude.{◌≤◌, ◌<◌, ◌≡◌, length};
+ghost use Rattle.std.specs.Prelude.{◌≡◌, length};
 ghost use Rattle.matching.specs.Definitions.Nodes.{Unique};
-ghost use Rattle.matching.specs.Definitions.Sizes.{link_rows};
 ghost use Rattle.tables.specs.Definitions.Sizes.{table_size};
 ghost use Rattle.tables.specs.Definitions.Tables.{nodes_in};
 ghost use Rattle.update.specs.Rows.{RowIn, Outdated, Current, OutdatedBoth, CurrentBoth};
@@ -9,23 +8,19 @@ ghost use Rattle.update.specs.Rows.{RowIn, Outdated, Current, OutdatedBoth, Curr
 use super::rows::{fill, find, redirect};
 use load::decode::store;
 use load::table::Rows;
-use matching::Range;
+use matching::{Master, Range};
 use tables::find::{row_of, sort_in};
-use tables::sizes::NODES;
 
-// The table's row of the node with the number z where it is of the sort, else the number of rows.
-fn row_in(t: &[u8], z: u32, sort: u32) -> usize
+// The table's row of the node with the number z, where there is one of the sort.
+fn row_in(t: &[u8], z: u32, sort: u32) -> Option<usize>
     requires { (length t.now ≡ table_size) × Unique (nodes_in t.now) }
     ensures { RowIn t.now z sort result }
 {
-    let k = row_of(t, z);
-    if k >= NODES {
-        return k;
-    }
+    let k = row_of(t, z)?;
     if sort_in(t, k) != sort {
-        return NODES;
+        return None;
     }
-    k
+    Some(k)
 }
 
 // The node with the number z, where it is of the sort, is written, added or taken out as the table has it. Gives the new end of the sort's range.
@@ -34,37 +29,37 @@ fn update_sort(
     z: u32,
     sort: u32,
     r: Range,
-    side: usize,
+    master: Master,
     ns: &mut [u32],
     at: &mut [[i16; 2]],
     cs: &mut [u32],
     limits: &mut [u64],
     places: &mut [[u16; 2]],
-    n: usize,
 ) -> usize
-    requires { Outdated t.now z sort r ns.old at.old cs.old limits.old
-        × (side < 2) × (length places.old ≡ link_rows) × (n ≤ link_rows) }
+    requires { Outdated t.now z sort r ns.old at.old cs.old limits.old }
     ensures { Current t.now sort r ns.old at.old cs.old limits.old
         result ns.new at.new cs.new limits.new
-        × (length places.new ≡ link_rows) }
+        × (length places.new ≡ length places.old) }
 {
-    let row = find(r, ns, z);
-    let k = row_in(t, z, sort);
-    if k < NODES {
-        store(t, k, row, ns, at, cs);
-        limits[row] = 0;
-        if row < r.to {
-            return r.to;
+    match (row_in(t, z, sort), find(r, ns, z)) {
+        (Some(k), Some(row)) => {
+            store(t, k, row, ns, at, cs);
+            limits[row] = 0;
+            r.to
         }
-        return row + 1;
+        (Some(k), None) => {
+            store(t, k, r.to, ns, at, cs);
+            limits[r.to] = 0;
+            r.to + 1
+        }
+        (None, Some(row)) => {
+            let last = r.to - 1;
+            fill(row, last, ns, at, cs, limits);
+            redirect(master, last as u16, row as u16, places);
+            last
+        }
+        (None, None) => r.to,
     }
-    if row < r.to {
-        let last = r.to - 1;
-        fill(row, last, ns, at, cs, limits);
-        redirect(side, last as u16, row as u16, places, n);
-        return last;
-    }
-    row
 }
 
 // The same for both sorts: a node that changed its sort is taken out of one range and added to the other.
@@ -72,32 +67,22 @@ pub fn update_node(
     t: &[u8],
     z: u32,
     m: Rows,
-    side: usize,
+    master: Master,
     ns: &mut [u32],
     at: &mut [[i16; 2]],
     cs: &mut [u32],
     limits: &mut [u64],
     places: &mut [[u16; 2]],
-    n: usize,
 ) -> Rows
-    requires { OutdatedBoth t.now z m ns.old at.old cs.old limits.old
-        × (side < 2) × (length places.old ≡ link_rows) × (n ≤ link_rows) }
+    requires { OutdatedBoth t.now z m ns.old at.old cs.old limits.old }
     ensures { CurrentBoth t.now m ns.old at.old cs.old limits.old
         result ns.new at.new cs.new limits.new
-        × (length places.new ≡ link_rows) }
+        × (length places.new ≡ length places.old) }
 {
-    let on = m.on;
-    let off = m.off;
-    let p = update_sort(t, z, 0, on, side, ns, at, cs, limits, places, n);
-    let q = update_sort(t, z, 1, off, side, ns, at, cs, limits, places, n);
+    let p = update_sort(t, z, 0, m.on, master, ns, at, cs, limits, places);
+    let q = update_sort(t, z, 1, m.off, master, ns, at, cs, limits, places);
     Rows {
-        on: Range {
-            from: on.from,
-            to: p,
-        },
-        off: Range {
-            from: off.from,
-            to: q,
-        },
+        on: Range { to: p, ..m.on },
+        off: Range { to: q, ..m.off },
     }
 }

@@ -4,21 +4,19 @@ ghost use Rattle.matching.specs.Definitions.Sizes.{set_rows};
 ghost use Rattle.load.specs.Load.{Columns, Written};
 ghost use Rattle.update.specs.Rows.{Found};
 
-use matching::Range;
+use matching::{Master, Range};
 
-// The row of the range that has the number z, or the range's end.
-pub fn find(r: Range, ns: &[u32], z: u32) -> usize
+// The row of the range that has the number z, where one has it.
+pub fn find(r: Range, ns: &[u32], z: u32) -> Option<usize>
     requires { (r.from ≤ r.to) × (r.to ≤ length ns.now) }
     ensures { Found r ns.now z result }
 {
-    let mut k = r.from;
-    while k < r.to {
+    for k in r.from..r.to {
         if ns[k] == z {
-            return k;
+            return Some(k);
         }
-        k += 1;
     }
-    k
+    None
 }
 
 // Copies row `last`, with its limit, into another.
@@ -41,16 +39,14 @@ pub fn fill(
     limits[row] = limits[last];
 }
 
-// Of the first n links, those whose node of one side stood in row `last` name the other row.
-pub fn redirect(side: usize, last: u16, row: u16, places: &mut [[u16; 2]], n: usize)
-    requires { (side < 2) × (n ≤ length places.old) }
+// The places of the master's node that were row `last` become the other row.
+pub fn redirect(master: Master, last: u16, row: u16, places: &mut [[u16; 2]])
     ensures { length places.new ≡ length places.old }
 {
-    let mut i = 0;
-    while i < n {
-        if places[i][side] == last {
-            places[i][side] = row;
+    let side = master as usize;
+    for place in places {
+        if place[side] == last {
+            place[side] = row;
         }
-        i += 1;
     }
 }

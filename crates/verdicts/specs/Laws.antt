@@ -1,4 +1,3 @@
-pub mod Answers
 pub mod Lists
 pub mod Edit
 pub mod Spare

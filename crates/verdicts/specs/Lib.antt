@@ -1,5 +1,4 @@
 -- What the contracts of this crate cite, and the laws that those above it need.
-pub mod Answers
 pub mod Lists
 pub mod Edit
 pub mod Spare

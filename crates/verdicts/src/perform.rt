@@ -1,91 +1,62 @@
 // An edit performed, once the list is known to be finished: its own places from the top, and where none of them refuses it, its effect on a table.
-ghost use Rattle.std.specs.Prelude.{◌≡◌, eqb, ltb, length};
+ghost use Rattle.std.specs.Prelude.{◌≡◌, length};
 ghost use Rattle.tables.specs.Definitions.Sizes.{edit_size, node_rows, table_size};
 ghost use Rattle.tables.specs.Definitions.Tables.{nodes_in};
 ghost use Rattle.tables.specs.Definitions.Edits.{kind_of};
 ghost use Rattle.tables.specs.Laws.Changes.{change_of, arrives};
-ghost use Rattle.verdicts.specs.Edit.{place_answer, node_answer, master_answer, edit_answer, Applied, Performed};
+ghost use Rattle.verdicts.specs.Edit.{node_answer, edit_answer, Placed, Applied, Performed};
 
-use contract::{Answer, Refusal};
-use tables::edits::{Change, apply, fields_right, kind_of, master_of, number_of};
+use contract::{Refusal, Verdict};
+use matching::Master;
+use tables::edits::{Change, apply, fields_right, kind_of, master, master_of, number_of};
 use tables::find::{count, row_of};
 use tables::sizes::NODES;
 
-// The number of an arrival must be in no row, and a row free; every other number must be in a row.
-fn judge_place(change: Change, nodes: usize, row: usize) -> Answer
-    ensures { result ≡ place_answer (arrives change) (ltb row node_rows) (eqb nodes node_rows) }
+// The row of an edit's node: the number of an arrival must be in none, and a row free behind the nodes; every other number must be in one.
+#[tactic(auto, unfolding(crate::specs::Edit::place_answer), using(crate::specs::Laws::Edit::no_arrival))]
+fn place(change: Change, nodes: usize, row: Option<usize>) -> Result<usize, Refusal>
+    ensures { Placed (arrives change) nodes row result }
 {
     match change {
-        Change::Arrival => {
-            if row < NODES {
-                return Answer::Refused(Refusal::Number, 0);
-            }
-            if nodes == NODES {
-                return Answer::Refused(Refusal::Full, 0);
-            }
-            Answer::Done(0)
-        }
-        _ => {
-            if row < NODES {
-                return Answer::Done(0);
-            }
-            Answer::Refused(Refusal::Number, 0)
-        }
+        Change::Arrival if row.is_some() => Err(Refusal::Number),
+        Change::Arrival if nodes == NODES => Err(Refusal::Full),
+        Change::Arrival => Ok(nodes),
+        _ => row.ok_or(Refusal::Number),
     }
 }
 
 // A change of the table of its master.
-fn change_table(change: Change, t: &mut [u8], edit: &[u8]) -> Answer
+#[tactic(auto, unfolding(crate::specs::Edit::node_answer))]
+fn change_table(change: Change, t: &mut [u8], edit: &[u8]) -> Verdict
     requires { (length t.old ≡ table_size) × (length edit.now ≡ edit_size) × (change ≡ change_of (kind_of edit.now)) }
     ensures { (result ≡ node_answer edit.now (nodes_in t.old))
         × Applied edit.now t.old t.new result }
 {
     let number = number_of(edit);
-    if number == 0 {
-        return Answer::Refused(Refusal::Field, 0);
-    }
-    if !fields_right(change, edit) {
-        return Answer::Refused(Refusal::Field, 0);
+    if number == 0 || !fields_right(change, edit) {
+        return Err(Refusal::Field.into());
     }
     let nodes = count(t);
-    let row = row_of(t, number);
-    let answer = judge_place(change, nodes, row);
-    match answer {
-        Answer::Done(_) => {
-            apply(change, t, edit, nodes, row);
-            answer
-        }
-        _ => answer,
-    }
+    let row = place(change, nodes, row_of(t, number))?;
+    apply(change, t, edit, nodes, row);
+    Ok(())
 }
 
-// A change in the master that the edit names: the other table stays.
-fn change_master(change: Change, a: &mut [u8], b: &mut [u8], edit: &[u8]) -> Answer
-    requires { (length a.old ≡ table_size) × (length b.old ≡ table_size) × (length edit.now ≡ edit_size)
-        × (change ≡ change_of (kind_of edit.now)) }
-    ensures { (result ≡ master_answer edit.now (nodes_in a.old) (nodes_in b.old))
-        × Performed edit.now a.old b.old a.new b.new result }
-{
-    let master = master_of(edit);
-    match master {
-        0 => change_table(change, a, edit),
-        1 => change_table(change, b, edit),
-        _ => Answer::Refused(Refusal::Master, 0),
-    }
-}
-
-// The one test of an edit's kind.
-pub fn perform(a: &mut [u8], b: &mut [u8], edit: &[u8]) -> Answer
+// An edit of the table that it names: the other one stays.
+#[tactic(auto, unfolding(crate::specs::Edit::edit_answer, crate::specs::Edit::master_answer))]
+pub fn perform(a: &mut [u8], b: &mut [u8], edit: &[u8]) -> Verdict
     requires { (length a.old ≡ table_size) × (length b.old ≡ table_size) × (length edit.now ≡ edit_size) }
     ensures { (result ≡ edit_answer edit.now (nodes_in a.old) (nodes_in b.old))
         × Performed edit.now a.old b.old a.new b.new result }
 {
-    let kind = kind_of(edit);
-    match kind {
-        1 => change_master(Change::Arrival, a, b, edit),
-        2 => change_master(Change::Departure, a, b, edit),
-        3 => change_master(Change::Move, a, b, edit),
-        4 => change_master(Change::Capacity, a, b, edit),
-        _ => Answer::Refused(Refusal::Kind, 0),
+    let Ok(change) = Change::try_from(kind_of(edit)) else {
+        return Err(Refusal::Kind.into());
+    };
+    let Some(master) = master(master_of(edit)) else {
+        return Err(Refusal::Master.into());
+    };
+    match master {
+        Master::A => change_table(change, a, edit),
+        Master::B => change_table(change, b, edit),
     }
 }

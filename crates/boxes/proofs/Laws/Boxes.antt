@@ -11,8 +11,9 @@ use Rattle.matching.specs.Definitions.Pairs.{squared_distance}
 use Rattle.matching.specs.Definitions.Columns.{edge, Inside}
 use Rattle.matching.specs.Definitions.Rows.{across, upward, x_at, y_at}
 use Rattle.matching.proofs.Laws.Distance.{inside_reach, distance_fits}
-use Rattle.boxes.specs.Boxes.{west, east, south, north, In, Inner, Around, Clear, Gap, Clamped, Nearest, Least, Greatest, Grown}
-use Rattle.boxes.proofs.Laws.Places.{le_then, between_near, reaches}
+use Rattle.boxes.specs.Boxes.{west, east, south, north, In, Inner, Around, Clear, Gap, Clamped, Nearest, Grown}
+use Rattle.std.specs.Int.{int_min, int_max}
+use Rattle.boxes.proofs.Laws.Places.{le_then, least, greatest, min_small, max_small, between_near, reaches}
 
 -- Clamped along each axis is nearest.
 pub nearest : (p b : List ℤ) (x y : ℤ) → Clamped (across p) (west b) (east b) x → Clamped (upward p) (south b) (north b) y → Nearest p b (x ∷ y ∷ [])
@@ -47,27 +48,29 @@ apart b c q d m k = record {
 
 -- A box grows by each of its edges.
 pub grown :
-    (b p : List ℤ) (w e s n : ℤ) →
-    Least (west b) (across p) w → Greatest (east b) (across p) e →
-    Least (south b) (upward p) s → Greatest (north b) (upward p) n →
-    Grown b p (w ∷ e ∷ s ∷ n ∷ [])
-grown b p w e s n hw he hs hn = record {
-  inner = λ i k.
-      ((hw.small edge i.0.0 k.0, hs.small edge i.0.1 k.1), (he.small edge i.1.0 k.0, hn.small edge i.1.1 k.1));
-  holds = λ u v i. record {
-    west = le_then _ _ _ hw.first i.west;
-    east = le_then _ _ _ i.east he.first;
-    south = le_then _ _ _ hs.first i.south;
-    north = le_then _ _ _ i.north hn.first;
-  };
-  here = record { west = hw.second; east = he.second; south = hs.second; north = hn.second };
-}
+    (b p : List ℤ) →
+    Grown b p (int_min (west b) (across p) ∷ int_max (east b) (across p) ∷ int_min (south b) (upward p) ∷ int_max (north b) (upward p) ∷ [])
+grown b p =
+    let w = least (west b) (across p) in
+    let e = greatest (east b) (across p) in
+    let s = least (south b) (upward p) in
+    let n = greatest (north b) (upward p) in
+    record {
+      inner = λ i k. (
+        (min_small (west b) (across p) edge i.0.0 k.0, min_small (south b) (upward p) edge i.0.1 k.1),
+        (max_small (east b) (across p) edge i.1.0 k.0, max_small (north b) (upward p) edge i.1.1 k.1),
+      );
+      holds = λ u v i. record {
+        west = le_then _ _ _ w.0 i.west;
+        east = le_then _ _ _ i.east e.0;
+        south = le_then _ _ _ s.0 i.south;
+        north = le_then _ _ _ i.north n.0;
+      };
+      here = record { west = w.1; east = e.1; south = s.1; north = n.1 };
+    }
 
--- The box around no rows yet, and around one more.
+-- The box around one row more.
 module _ (at : List (List ℤ)) (k : ℕ) (h : Inside (x_at at k) (y_at at k)) where
-  pub around_none : Around at k k (x_at at k ∷ x_at at k ∷ y_at at k ∷ y_at at k ∷ [])
-  around_none = record { inner = (h, h); holds = λ i a b. absurd (omega arith) }
-
   pub around_more : (first : ℕ) (b r : List ℤ) → Around at first k b → Grown b (get_or at k []) r → Around at first (k + 1) r
   around_more first b r a g = record { inner = g.inner a.inner h; holds = λ i l m. go i l m (ℕ_discrete i k) }
     where

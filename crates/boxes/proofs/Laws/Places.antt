@@ -1,7 +1,7 @@
 -- Signed positions as places of a scale without a sign, where `omega` reads their order and their differences. Assumes nothing.
 use Prim.Native.Nat.{ℕ, zero, suc, ◌+◌, ◌-◌, ◌≤◌, ◌<◌}
 use mathlib.Core.Path.{◌≡◌, refl}
-use mathlib.Core.Bool.{Bool, true, false}
+use mathlib.Core.Bool.{Bool, true, false, cond}
 use mathlib.Core.Logic.{◌⊎◌, inl, inr}
 use native.Mathlib.Decide.{dec_lt}
 use native.Mathlib.Omega.{arith}
@@ -9,10 +9,11 @@ use lib.Dec.{leb→le, le→leb}
 use lib.IntN.{ℤ, pos, negsuc, sub_ℕ, ◌-ℤ◌, nat_abs}
 use lib.Signed.{mag, lt_z, ◌≤ℤ◌, ≤ℤ_refl, lt_z_yes, lt_z_no, <ℤ-≤ℤ_trans, clash_ℤ}
 use mir.Syntax.{w16}
-use mir.Val.{to_z, of_z, SFits}
+use mir.Val.{to_z, of_z}
 use mir.Facts.{to_z-of_z}
 use borrow.Author.Rules.{sfits_of}
 use borrow.Author.Tests.{lt-ltb, le-ltb, ltb-true}
+use Rattle.std.specs.Int.{int_min, int_max}
 use Rattle.boxes.specs.Boxes.{Between, Clamped}
 
 -- A coordinate is read back from its two bytes.
@@ -25,14 +26,6 @@ le_lt (pos a) (pos b) h = record { le = le→leb a b (omega (arith, ltb-true a b
 le_lt (pos a) (negsuc b) h = absurd (let e : ◌≡◌ {A = ℕ} 0 1 = cc in omega arith)
 le_lt (negsuc a) (pos b) h = record { le = tt }
 le_lt (negsuc a) (negsuc b) h = record { le = le→leb b a (omega (arith, ltb-true b a h)) }
-
--- What a test of two positions says, as code makes it.
-module _ {x y : ℤ} (f : SFits w16 x) (g : SFits w16 y) where
-  pub less : lt_z (to_z w16 (of_z w16 x)) (to_z w16 (of_z w16 y)) ≡ true → x ≤ℤ y
-  less h = le_lt x y (rw (to_z-of_z f, to_z-of_z g) at h)
-
-  pub not_less : lt_z (to_z w16 (of_z w16 x)) (to_z w16 (of_z w16 y)) ≡ false → y ≤ℤ x
-  not_less h = lt_z_no (rw (rw (to_z-of_z f, to_z-of_z g) at h) tt)
 
 pub le_then : (x y z : ℤ) → x ≤ℤ y → y ≤ℤ z → x ≤ℤ z
 le_then x y z h k = go (lt_z z x) refl
@@ -96,20 +89,53 @@ between_near p q u h = go h
     go (inl h) = omega (arith, pq, qu, pu, le_place n p q h.0, le_place n q u h.1)
     go (inr h) = omega (arith, pq, qu, pu, le_place n u q h.0, le_place n q p h.1)
 
--- The three answers of a clamp.
+-- What holds of both coordinates holds of the lesser and of the greater.
+chosen : (P : ℤ → Type 0) (t : Bool) {x y : ℤ} → P x → P y → P (cond t x y)
+chosen P true h k = h
+chosen P false h k = k
+
+-- The lesser of two coordinates is at most both, the greater at least.
+module _ (p q : ℤ) where
+  pub least : (int_min p q ≤ℤ p) × (int_min p q ≤ℤ q)
+  least = go (lt_z q p) refl
+    where
+      go : (t : Bool) → lt_z q p ≡ t → (cond t q p ≤ℤ p) × (cond t q p ≤ℤ q)
+      go true e = (le_lt q p e, ≤ℤ_refl q)
+      go false e = (≤ℤ_refl p, lt_z_no (rw e tt))
+
+  pub greatest : (p ≤ℤ int_max p q) × (q ≤ℤ int_max p q)
+  greatest = go (lt_z q p) refl
+    where
+      go : (t : Bool) → lt_z q p ≡ t → (p ≤ℤ cond t p q) × (q ≤ℤ cond t p q)
+      go true e = (≤ℤ_refl p, le_lt q p e)
+      go false e = (lt_z_no (rw e tt), ≤ℤ_refl q)
+
+  pub min_small : (n : ℕ) → nat_abs p ≤ n → nat_abs q ≤ n → nat_abs (int_min p q) ≤ n
+  min_small n h k = chosen (λ z. nat_abs z ≤ n) (lt_z q p) k h
+
+  pub max_small : (n : ℕ) → nat_abs p ≤ n → nat_abs q ≤ n → nat_abs (int_max p q) ≤ n
+  max_small n h k = chosen (λ z. nat_abs z ≤ n) (lt_z q p) h k
+
+-- The answer of a clamp, by the test of each end.
 module _ (p low high : ℤ) where
-  pub clamp_low : p ≤ℤ low → Clamped p low high low
-  clamp_low h = record { between = λ u a b. inl (h, a); small = λ n a b c. b }
-
-  pub clamp_high : high ≤ℤ p → Clamped p low high high
-  clamp_high h = record { between = λ u a b. inr (b, h); small = λ n a b c. c }
-
-  pub clamp_here : Clamped p low high p
-  clamp_here = record { between = λ u a b. side u (either u p); small = λ n a b c. a }
+  pub clamped : Clamped p low high (int_max (int_min p high) low)
+  clamped = record { between = λ u a b. go u a b (lt_z high p) refl; small = λ n a b c. max_small (int_min p high) low n (min_small p high n a c) b }
     where
       side : (u : ℤ) → (u ≤ℤ p) ⊎ (p ≤ℤ u) → Between p p u
       side u (inl h) = inr (h, ≤ℤ_refl p)
       side u (inr h) = inl (≤ℤ_refl p, h)
+
+      past : (u : ℤ) → low ≤ℤ u → u ≤ℤ high → high ≤ℤ p → (t : Bool) → lt_z low high ≡ t → Between p (cond t high low) u
+      past u a b h true e = inr (b, h)
+      past u a b h false e = inr (le_then u high low b (lt_z_no (rw e tt)), le_then low u p a (le_then u high p b h))
+
+      here : (u : ℤ) → low ≤ℤ u → (t : Bool) → lt_z low p ≡ t → Between p (cond t p low) u
+      here u a true e = side u (either u p)
+      here u a false e = inl (lt_z_no (rw e tt), a)
+
+      go : (u : ℤ) → low ≤ℤ u → u ≤ℤ high → (t : Bool) → lt_z high p ≡ t → Between p (int_max (cond t high p) low) u
+      go u a b true e = past u a b (le_lt high p e) (lt_z low high) refl
+      go u a b false e = here u a (lt_z low p) refl
 
 -- A position from low to high that is at most n away from c.
 pub record Near (c low high : ℤ) (n : ℕ) : Type 0 where

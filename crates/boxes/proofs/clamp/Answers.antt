@@ -1,13 +1,8 @@
--- One answer for each way the three coordinates can stand.
-use borrow.Author.Rules.{rules}
-use Rattle.boxes.proofs.Laws.Places.{less, clamp_low, clamp_high, clamp_here}
+-- By the tests of both ends.
+use Rattle.boxes.proofs.Laws.Places.{held, clamped}
 use Rattle.boxes.proofs.clamp.Goals as goal
 
-pub returns-then-p-low : goal.returns-then-p-low
-returns-then-p-low c = search (rules, less, clamp_low)
-
-pub returns-then-high-p : goal.returns-then-high-p
-returns-then-high-p c = search (rules, less, clamp_high)
-
 pub returns : goal.returns
-returns c = search (rules, clamp_here)
+returns c =
+    let r = c.ranges in
+    rw (held c.max.result c.max.type_inv, c.max.ensures.value, held c.min.result c.min.type_inv, c.min.ensures.value, held c.args.p r.p.sfits, held c.args.low r.low.sfits, held c.args.high r.high.sfits) (clamped c.args.p c.args.low c.args.high)

@@ -2,8 +2,5 @@
 use Rattle.boxes.proofs.Laws.Boxes.{clear}
 use Rattle.boxes.proofs.clearance.Goals as goal
 
-pub apart-requires : goal.apart-requires
-apart-requires c = let h = c.requires in (h.0, c.nearest.ensures.inside h.0 h.1)
-
 pub returns : goal.returns
-returns c = let h = c.requires in clear _ _ _ _ h.0 h.1 c.nearest.ensures c.apart.ensures
+returns c = clear _ _ _ _ c.requires.0 c.requires.1 c.nearest.ensures c.apart.ensures

@@ -8,12 +8,14 @@ use lib.IntN.{ℤ}
 use lib.ListN.{length, get_or, set, length-set}
 use lib.Seq.{get_or-set_same, get_or-set_other}
 use Rattle.matching.specs.declared.Range.{Range}
-use Rattle.matching.specs.Definitions.Nodes.{Master, master_a, master_b}
+use Rattle.matching.specs.declared.Master.{Master}
+use Rattle.matching.specs.declared.Master.TheVariants.{A as master_a, B as master_b}
 use Rattle.matching.specs.Definitions.Sizes.{set_rows, set_blocks, block_rows}
 use Rattle.matching.specs.Definitions.Rows.{range}
 use Rattle.boxes.specs.Boxes.{Around}
 use Rattle.closest.specs.Rows.{Rows, Held, Sound}
-use Rattle.closest.specs.Live.{Lists, Elsewhere, Sized, May, Live, Gathered, Refreshed}
+use Rattle.closest.specs.declared.live.Lists.{Lists}
+use Rattle.closest.specs.Live.{Elsewhere, Sized, May, Live, Gathered, Refreshed}
 use Rattle.closest.specs.Blocks.{start, stop, Block, end_of, least_of, Least, Boxed, number_of, Laying, Laid, LaidAll, Kept, Fenced}
 use Rattle.closest.proofs.Laws.Live.{same_refl, same_trans, live_same, live_left}
 use Rattle.closest.proofs.Laws.Refresh.{may_refresh, refreshed}

@@ -3,13 +3,15 @@ use Prim.Native.Nat.{ℕ, zero, suc, ◌+◌, ◌-◌, ◌<◌, ◌≤◌}
 use mathlib.Core.Path.{◌≡◌, refl, sym, ◌∙◌, ap, subst}
 use mathlib.Core.Bool.{cond}
 use mathlib.Core.List.{List}
+use Rattle.std.specs.Prelude.{Some}
 use native.Mathlib.Decide.{ℕ_discrete, dec_lt}
 use native.Mathlib.Omega.{arith}
 use lib.Dec.{eqb, ltb}
 use lib.ListN.{length, get_or, set, length-set}
 use lib.Seq.{get_or-set_same, get_or-set_other}
 use borrow.Author.Tests.{eq-eqb, ne_eqb, lt-ltb, le-ltb}
-use Rattle.matching.specs.Definitions.Nodes.{master_a, master_b, other}
+use Rattle.matching.specs.declared.Master.TheVariants.{A as master_a, B as master_b}
+use Rattle.matching.specs.Definitions.Nodes.{other}
 use Rattle.matching.specs.Definitions.Pairs.{Pair, Before}
 use Rattle.matching.specs.Definitions.Sizes.{half, set_rows}
 use Rattle.matching.specs.Definitions.Rows.{Spanned}
@@ -205,7 +207,7 @@ module _ (R : Rows) (left : List ℕ) (v : Sound R left) (chain : List ℕ) (n :
       on_other : Faces R top at → Held R at
       on_other (faces m h g) = held R v.spans (other m) g
 
-  pub may_take : 2 ≤ n → get_or chain (n - 2) 0 ≡ at → Decided R left chain n (sides top at d)
+  pub may_take : 2 ≤ n → get_or chain (n - 2) 0 ≡ at → Decided R left chain n (Some (Take (sides top at d)))
   unfolding sides
   may_take two e = go q.faces
     where
@@ -223,7 +225,7 @@ module _ (R : Rows) (left : List ℕ) (v : Sound R left) (chain : List ℕ) (n :
       not_at : (h : ℕ) → h + 2 < n → get_or chain h 0 ≡ at → ⊥
       not_at h l d = once R v.spans left chain n c h (n - 2) (omega arith) (omega arith) (d ∙ sym e)
 
-      go : Faces R top at → Decided R left chain n (cond (ltb top half) (Take (record { a = top; b = at; distance = d })) (Take (record { a = at; b = top; distance = d })))
+      go : Faces R top at → Decided R left chain n (Some (Take (cond (ltb top half) (record { a = top; b = at; distance = d }) (record { a = at; b = top; distance = d }))))
       go (faces master_a h g) =
           let l : top < half = omega (arith, v.spans.below) in
           rw (lt-ltb top half l) (record { deep = two; onto_j = q; onto_i = onto; not_i = not_top; not_j = not_at }, l)

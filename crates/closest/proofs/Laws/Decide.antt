@@ -2,11 +2,16 @@
 use Prim.Native.Nat.{ℕ, ◌+◌, ◌-◌, ◌/◌, ◌<◌, ◌≤◌}
 use mathlib.Core.Path.{◌≡◌, sym, ◌∙◌, ap, subst}
 use mathlib.Core.List.{List, []}
-use native.Mathlib.Decide.{dec_le}
+use native.Mathlib.Decide.{ℕ_discrete, dec_le}
 use native.Mathlib.Omega.{arith}
 use lib.IntN.{ℤ}
+use borrow.Author.Tests.{eq-eqb, ne_eqb}
+use Rattle.std.specs.Prelude.{Option, None, Some}
+use Rattle.std.proofs.lemmas.Option.{none-some, same_Some}
 use lib.ListN.{length, get_or}
-use Rattle.matching.specs.Definitions.Nodes.{Master, master_a, master_b, other}
+use Rattle.matching.specs.declared.Master.{Master}
+use Rattle.matching.specs.declared.Master.TheVariants.{A as master_a, B as master_b}
+use Rattle.matching.specs.Definitions.Nodes.{other}
 use Rattle.matching.specs.Definitions.Columns.{Inside}
 use Rattle.matching.specs.Definitions.Sizes.{set_rows, set_blocks, block_rows, number_range}
 use Rattle.matching.specs.Definitions.Rows.{range, On, across, upward, Placed, gap}
@@ -14,13 +19,13 @@ use Rattle.matching.proofs.Laws.Distance.{inside_reach, distance_fits}
 use Rattle.matching.proofs.Laws.Earliest.{Leq}
 use Rattle.closest.specs.declared.nearest.Near.{Near}
 use Rattle.closest.specs.declared.chain.Move.{Move}
-use Rattle.closest.specs.declared.chain.Move.TheVariants.{Stop, Push, Take}
-use Rattle.closest.specs.declared.chain.State.{State}
+use Rattle.closest.specs.declared.chain.Move.TheVariants.{Push}
 use Rattle.closest.specs.Sizes.{far_key}
 use Rattle.closest.specs.Rows.{Rows, Held, far, Faces, faces, between, rest}
-use Rattle.closest.specs.Live.{Lists, number_at, row_at, spot_of, Holds, Live}
+use Rattle.closest.specs.declared.live.Lists.{Lists}
+use Rattle.closest.specs.Live.{number_at, row_at, spot_of, Holds, Live}
 use Rattle.closest.specs.Blocks.{start, stop, Block, Aligned, end_of, Boxed, number_of}
-use Rattle.closest.specs.Nearest.{apart, seen, Keyed, Guards, From, seed, block, Scanned, Partner, Chosen}
+use Rattle.closest.specs.Nearest.{seeded, met, apart, seen, Keyed, Guards, From, seed, block, Scanned, Partner, Chosen}
 use Rattle.closest.specs.Chain.{Begun, Decided, Seeding, Seeded, none, under, Ready}
 use Rattle.closest.proofs.Laws.Pairs.{rank, closer, leq_key, faces_swap, facing}
 use Rattle.closest.proofs.Laws.Spans.{aligned, in_block, held}
@@ -37,7 +42,24 @@ apart_fits : (p q : List ℤ) → Inside (across p) (upward p) → Inside (acros
 unfolding apart
 apart_fits p q a b = omega (arith, distance_fits (across p) (upward p) (across q) (upward q) (inside_reach (across p) (upward p) (across q) (upward q) a b))
 
-module _ (R : Rows) (left : List ℕ) (Q : Lists) (E : List (List ℕ)) (X : List (List ℤ)) (chain : List ℕ) (s : State) (r : Ready R left Q E X chain s) where
+-- A search that found none, and one that found something.
+met_none : (r : Near) → met r ≡ None → r.key ≡ far_key
+unfolding met
+met_none r e = go (ℕ_discrete r.key far_key)
+  where
+    go : Dec (r.key ≡ far_key) → r.key ≡ far_key
+    go (yes d) = d
+    go (no d) = absurd (none-some r (rw (ne_eqb r.key far_key d) at (sym e)))
+
+met_some : (r w : Near) → met r ≡ Some w → (r ≡ w) × (w.key ≡ far_key → ⊥)
+unfolding met
+met_some r w e = go (ℕ_discrete r.key far_key)
+  where
+    go : Dec (r.key ≡ far_key) → (r ≡ w) × (w.key ≡ far_key → ⊥)
+    go (yes d) = absurd (none-some w (rw (eq-eqb r.key far_key d) at e))
+    go (no d) = let q : r ≡ w = same_Some r w (rw (ne_eqb r.key far_key d) at e) in (q, rw q at d)
+
+module _ (R : Rows) (left : List ℕ) (Q : Lists) (E : List (List ℕ)) (X : List (List ℤ)) (chain : List ℕ) (depth : ℕ) (r : Ready R left Q E X chain depth) where
   -- Place k lists a row of the master's that has something left.
   record Listed (m : Master) (k : ℕ) : Type 0 where
     low : k < set_rows
@@ -108,56 +130,56 @@ module _ (R : Rows) (left : List ℕ) (Q : Lists) (E : List (List ℕ)) (X : Lis
       go master_a g = rest_none R left r.sound (λ i j hi hj. omega (arith, g i hi))
       go master_b g = rest_none R left r.sound (λ i j hi hj. omega (arith, g j hj))
 
-  pub may_begin : Aligned R.spans.a × (length Q.listed ≡ set_rows) × (length E ≡ set_blocks)
-  may_begin = (aligned r.sound.spans master_a, r.kept.sized.listed, r.kept.ends)
-
   -- How an empty chain begins.
-  pub begun : s.depth ≡ 0 → (m : Move) → Begun Q.listed E R.spans.a m → Decided R left chain s.depth m
-  begun z Stop f = none_left master_a (λ q h a. let p = place master_a q h a in omega (arith, p.0, p.1, f (q / block_rows) (in_block r.sound.spans master_a q h).0))
-  begun z (Push w) o =
+  abbrev first : Option ℕ → Option Move
+  first None = None
+  first (Some w) = Some (Push w)
+
+  pub begun : depth ≡ 0 → (m : Option ℕ) → Begun Q.listed E R.spans.a m → Decided R left chain depth (first m)
+  begun z None f = none_left master_a (λ q h a. let p = place master_a q h a in omega (arith, p.0, p.1, f (q / block_rows) (in_block r.sound.spans master_a q h).0))
+  begun z (Some w) o =
       let l = listed master_a o.number (start o.number) o.block (omega arith) o.some in
       rw o.is (record { held = held R r.sound.spans master_a l.on; alive = l.alive; next = λ h d. absurd (omega arith); new = λ h d. absurd (omega arith) })
-  begun z (Take p) b = absurd b
 
   -- The top, and the row below it.
-  module _ (deep : s.depth ≡ 0 → ⊥) where
+  module _ (deep : depth ≡ 0 → ⊥) where
     abbrev top : ℕ
-    top = get_or chain (s.depth - 1) 0
+    top = get_or chain (depth - 1) 0
 
     abbrev lower : ℕ
-    lower = get_or chain (s.depth - 2) 0
+    lower = get_or chain (depth - 2) 0
 
     abbrev point : List ℤ
     point = get_or R.at top []
 
     top_held : Held R top
-    top_held = r.path.held (s.depth - 1) (omega arith)
+    top_held = r.path.held (depth - 1) (omega arith)
 
     pub top_placed : Placed R.at top
     top_placed = record { row = omega (arith, top_held.low, r.sound.positions); inside = r.sound.inside top_held.master top top_held.on }
 
-    pub chain_room : s.depth < length chain
-    chain_room = room R left r.sound chain s.depth r.path
+    pub chain_room : depth < length chain
+    chain_room = room R left r.sound chain depth r.path
 
-    lower_faces : 2 ≤ s.depth → Faces R top lower
-    lower_faces h = faces_swap R (subst (λ (k : ℕ). Faces R lower (get_or chain k 0)) (omega arith) (r.path.facing (s.depth - 2) (omega arith)))
+    lower_faces : 2 ≤ depth → Faces R top lower
+    lower_faces h = faces_swap R (subst (λ (k : ℕ). Faces R lower (get_or chain k 0)) (omega arith) (r.path.facing (depth - 2) (omega arith)))
 
-    lower_listed : 2 ≤ s.depth → (o : Master) → On R.spans o top → Listed (other o) (spot_of Q lower)
-    lower_listed h o g = row_listed (other o) lower (facing R r.sound.spans o (lower_faces h) g) (r.path.alive (s.depth - 2) (omega arith))
+    lower_listed : 2 ≤ depth → (o : Master) → On R.spans o top → Listed (other o) (spot_of Q lower)
+    lower_listed h o g = row_listed (other o) lower (facing R r.sound.spans o (lower_faces h) g) (r.path.alive (depth - 2) (omega arith))
 
-    pub seeding : Seeding chain Q s.depth
+    pub seeding : Seeding chain Q depth
     seeding = record {
       room = omega (arith, chain_room);
-      row = λ h. omega (arith, (r.path.held (s.depth - 2) (omega arith)).low, r.kept.sized.spots);
+      row = λ h. omega (arith, (r.path.held (depth - 2) (omega arith)).low, r.kept.sized.spots);
       place = λ h. omega (arith, (under_top h).low, r.kept.sized.listed);
       placed = λ h. listed_placed (under_top h);
     }
       where
-        under_top : 2 ≤ s.depth → Listed (other top_held.master) (spot_of Q lower)
+        under_top : 2 ≤ depth → Listed (other top_held.master) (spot_of Q lower)
         under_top h = lower_listed h top_held.master top_held.on
 
     -- What the search found.
-    module _ (n w : Near) (q : Seeded point chain Q s.depth n) where
+    module _ (n w : Near) (q : Seeded point chain Q depth n) where
       module _ (o : Master) (h : On R.spans o top) (v : Scanned point Q.listed Q.points E (range R.spans (other o)) n w) where
         Best : Near → Type 0
         Best u = Listed (other o) u.at × Keyed point Q.listed Q.points u.at u.key
@@ -166,12 +188,12 @@ module _ (R : Rows) (left : List ℕ) (Q : Lists) (E : List (List ℕ)) (X : Lis
         unfolding Best
         best met = go v.came
           where
-            seeded : Seeded point chain Q s.depth n → (n.key ≡ far_key → ⊥) → Best n
-            seeded (none l e) f = absurd (f e)
-            seeded (under l e k) f = (rw e (lower_listed l o h), k)
+            begins : Seeded point chain Q depth n → (n.key ≡ far_key → ⊥) → Best n
+            begins (none l e) f = absurd (f e)
+            begins (under l e k) f = (rw e (lower_listed l o h), k)
 
             go : From point Q.listed Q.points E (range R.spans (other o)) n w → Best w
-            go (seed e) = subst Best (sym e) (seeded q (λ f. met (ap (λ (u : Near). u.key) e ∙ f)))
+            go (seed e) = subst Best (sym e) (begins q (λ f. met (ap (λ (u : Near). u.key) e ∙ f)))
             go (block b h a c k) = (listed (other o) b w.at h a c, k)
 
         -- no row has a lesser key
@@ -216,23 +238,30 @@ module _ (R : Rows) (left : List ℕ) (Q : Lists) (E : List (List ℕ)) (X : Lis
         unfolding Best
         low_on met = (best met).0.low
 
-      -- The same of what is known of a partner.
-      module _ (p : Partner R.at Q.listed Q.points E R.spans top n w) where
-        scanned : (o : Master) → On R.spans o top → Scanned point Q.listed Q.points E (range R.spans (other o)) n w
-        scanned master_a h = p.onto_b (omega (arith, r.sound.spans.below))
-        scanned master_b h = p.onto_a (omega (arith, r.sound.spans.above))
+    -- The same of what is known of a partner.
+    module _ (n g : Option Near) (q : Seeded point chain Q depth (seeded n)) (p : Partner R.at Q.listed Q.points E R.spans top n g) where
+      abbrev o : Master
+      o = top_held.master
 
-        abbrev o : Master
-        o = top_held.master
+      abbrev h : On R.spans o top
+      h = top_held.on
 
-        abbrev h : On R.spans o top
-        h = top_held.on
+      scanned : (o : Master) → On R.spans o top → Scanned point Q.listed Q.points E (range R.spans (other o)) (seeded n) p.best
+      scanned master_a h = p.onto_b (omega (arith, r.sound.spans.below))
+      scanned master_b h = p.onto_a (omega (arith, r.sound.spans.above))
 
-        pub top_chosen : (w.key ≡ far_key → ⊥) → Chosen R left top (row_at Q.listed w.at) (w.key / number_range)
-        top_chosen = chosen_on o h (scanned o h)
+      pub top_stop : g ≡ None → rest R left ≡ []
+      top_stop e = stop_on (seeded n) p.best q o h (scanned o h) (met_none p.best (sym p.is ∙ e))
 
-        pub top_stop : w.key ≡ far_key → rest R left ≡ []
-        top_stop = stop_on o h (scanned o h)
+      module _ (w : Near) (e : g ≡ Some w) where
+        is : (p.best ≡ w) × (w.key ≡ far_key → ⊥)
+        is = met_some p.best w (sym p.is ∙ e)
 
-        pub place_low : (w.key ≡ far_key → ⊥) → w.at < set_rows
-        place_low = low_on o h (scanned o h)
+        seen_from : Scanned point Q.listed Q.points E (range R.spans (other o)) (seeded n) w
+        seen_from = rw is.0 at (scanned o h)
+
+        pub top_chosen : Chosen R left top (row_at Q.listed w.at) (w.key / number_range)
+        top_chosen = chosen_on (seeded n) w q o h seen_from is.1
+
+        pub place_low : w.at < set_rows
+        place_low = low_on (seeded n) w q o h seen_from is.1

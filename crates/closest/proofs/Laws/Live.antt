@@ -8,7 +8,8 @@ use lib.IntN.{ℤ}
 use lib.ListN.{get_or, length-set}
 use lib.Seq.{get_or-set_same, get_or-set_other}
 use Rattle.matching.specs.Definitions.Sizes.{set_rows}
-use Rattle.closest.specs.Live.{Lists, row_at, spot_of, Same, Elsewhere, Sized, entered, Holds, Live, Noted, passes, enters, Gathered}
+use Rattle.closest.specs.declared.live.Lists.{Lists}
+use Rattle.closest.specs.Live.{row_at, spot_of, Same, Elsewhere, Sized, entered, Holds, Live, Noted, passes, enters, Gathered}
 
 pub same_refl : (Q : Lists) (k : ℕ) → Same Q Q k
 same_refl Q k = record { listed = refl; point = refl; spot = refl }

@@ -6,7 +6,9 @@ use native.Mathlib.Decide.{dec_lt}
 use native.Mathlib.Omega.{arith}
 use lib.ListN.{get_or}
 use borrow.Author.Tests.{lt-ltb, le-ltb}
-use Rattle.matching.specs.Definitions.Nodes.{Master, master_a, master_b, each, other}
+use Rattle.matching.specs.declared.Master.{Master}
+use Rattle.matching.specs.declared.Master.TheVariants.{A as master_a, B as master_b}
+use Rattle.matching.specs.Definitions.Nodes.{each, other}
 use Rattle.matching.specs.Definitions.Pairs.{Pair, Before, nearer, lower_a, lower_b}
 use Rattle.matching.specs.Definitions.Sizes.{half, number_range}
 use Rattle.matching.specs.Definitions.Rows.{On, Spanned, key}

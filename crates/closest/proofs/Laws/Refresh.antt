@@ -7,7 +7,8 @@ use native.Mathlib.Omega.{arith}
 use lib.IntN.{ℤ}
 use lib.ListN.{get_or}
 use Rattle.matching.specs.Definitions.Sizes.{set_rows}
-use Rattle.closest.specs.Live.{Lists, row_at, spot_of, Elsewhere, May, Sized, entered, Holds, Live, Refreshed, stays, leaves}
+use Rattle.closest.specs.declared.live.Lists.{Lists}
+use Rattle.closest.specs.Live.{row_at, spot_of, Elsewhere, May, Sized, entered, Holds, Live, Refreshed, stays, leaves}
 use Rattle.closest.proofs.Laws.Live.{same_refl, entered_size, row_here, spot_here, row_other, spot_other, holds_here, holds_other, apart}
 
 module _ (ns : List ℕ) (at : List (List ℤ)) where
@@ -114,8 +115,3 @@ module _ (ns : List ℕ) (at : List (List ℤ)) where
     refreshed O r (stays d f g) = rw (f, g) (stay d, (λ k h. same_refl Q k), z)
     refreshed O r (leaves d f g) =
         rw (f, g) (leave d, (λ k h. apart ns at Q place last z in_w in_r k (λ q. h (omega (arith, listed)) (omega (arith, listed, l.high))) (λ q. h (omega (arith, tail)) (omega (arith, tail)))), entered_size ns at Q place last z in_w in_r)
-
-  -- The list does not get longer.
-  pub refreshed_low : {left : List ℕ} {row e : ℕ} {Q O : Lists} {r : ℕ} → Refreshed ns at left row e Q O r → r ≤ e
-  refreshed_low (stays d f g) = omega arith
-  refreshed_low (leaves d f g) = omega arith

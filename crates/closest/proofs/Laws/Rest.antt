@@ -11,7 +11,9 @@ use lib.ListN.{get_or, set, length-set}
 use lib.Seq.{get_or-set_same, get_or-set_other}
 use borrow.Author.Tests.{eq-eqb, ne_eqb}
 use Rattle.matching.specs.Definitions.Lists.{All}
-use Rattle.matching.specs.Definitions.Nodes.{Master, master_a, master_b, each, Node, capacity_of}
+use Rattle.matching.specs.declared.Master.{Master}
+use Rattle.matching.specs.declared.Master.TheVariants.{A as master_a, B as master_b}
+use Rattle.matching.specs.Definitions.Nodes.{each, Node, capacity_of}
 use Rattle.matching.specs.Definitions.Pairs.{Pair, number_in, distance, pair, pairs}
 use Rattle.matching.specs.Definitions.Join.{Left, capacities, less, lesser, taken}
 use Rattle.matching.specs.Definitions.Columns.{tabulate}

@@ -1,13 +1,32 @@
 -- Either master's rows. Assumes nothing.
 use Prim.Native.Nat.{ℕ, ◌/◌, ◌<◌, ◌≤◌}
 use mathlib.Core.Path.{◌≡◌, refl}
+use mathlib.Core.List.{List}
 use native.Mathlib.Omega.{arith}
+use lib.IntN.{ℤ}
+use lib.ListN.{length}
+use Rattle.std.specs.Int.{div_ceil}
+use Rattle.std.proofs.lemmas.Grind.{div_ceil_times}
+use Rattle.matching.specs.declared.Range.{Range}
 use Rattle.matching.specs.declared.Spans.{Spans}
-use Rattle.matching.specs.Definitions.Nodes.{Master, master_a, master_b}
-use Rattle.matching.specs.Definitions.Sizes.{block_rows}
-use Rattle.matching.specs.Definitions.Rows.{range, On, Spanned}
+use Rattle.matching.specs.declared.Master.{Master}
+use Rattle.matching.specs.declared.Master.TheVariants.{A as master_a, B as master_b}
+use Rattle.matching.specs.Definitions.Sizes.{set_rows, block_rows}
+use Rattle.matching.specs.Definitions.Rows.{range, On, Spanned, Fit}
 use Rattle.closest.specs.Rows.{Rows, Held}
 use Rattle.closest.specs.Blocks.{start, stop, Block, Aligned}
+
+-- What rows have left does not matter to how they fit.
+pub fit_again : {ns : List ℕ} {at : List (List ℤ)} {left : List ℕ} {s : Spans} → Fit ns at left s → (less : List ℕ) → length less ≡ set_rows → Fit ns at less s
+fit_again v less e = record { numbers = v.numbers; positions = v.positions; capacities = e; spans = v.spans; inside = v.inside; distinct = v.distinct }
+
+-- The blocks of a range: from the one that it begins with to its end, rounded up.
+module _ {r : Range} (u : Aligned r) {end : ℕ} (is : end ≡ div_ceil r.to block_rows) {b : ℕ} where
+  pub counted : r.from / block_rows ≤ b → b < end → Block r b
+  counted h l = (omega (arith, u.begins), omega (arith, is, div_ceil_times r.to block_rows (omega arith)))
+
+  pub counted_out : end ≤ b → r.to ≤ start b
+  counted_out h = omega (arith, is, div_ceil_times r.to block_rows (omega arith))
 
 module _ {s : Spans} (v : Spanned s) where
   pub aligned : (m : Master) → Aligned (range s m)

@@ -1,37 +1,28 @@
 -- A step of the run: the links taken and those still to be taken make the same join, and something falls. Assumes nothing.
 use Prim.Native.Nat.{ℕ, suc, ◌+◌, ◌-◌, ◌<◌, ◌≤◌}
 use mathlib.Core.Path.{◌≡◌, refl, sym, ◌∙◌, ap}
-use mathlib.Core.Bool.{true, false}
-use mathlib.Core.List.{List, []}
+use mathlib.Core.List.{List}
 use native.Mathlib.Omega.{arith}
 use lib.IntN.{ℤ}
 use lib.ListN.{length, get_or, set, length-set}
 use lib.Seq.{get_or-set_other}
-use Rattle.matching.specs.Definitions.Nodes.{master_a, master_b}
+use Rattle.matching.specs.declared.Master.TheVariants.{A as master_a, B as master_b}
 use Rattle.matching.specs.Definitions.Links.{Link}
-use Rattle.matching.specs.Definitions.Sizes.{half, set_rows}
+use Rattle.matching.specs.Definitions.Sizes.{half}
 use Rattle.matching.specs.Definitions.Rows.{On, link_of, links_in}
 use Rattle.matching.proofs.Laws.Sets.{link_more}
 use Rattle.matching.proofs.Theorems.Mutual.{put_link, put_length, puts, puts_snoc}
 use Rattle.closest.specs.declared.chain.Pick.{Pick}
-use Rattle.closest.specs.declared.chain.State.{State}
 use Rattle.closest.specs.Sizes.{chain_rows}
 use Rattle.closest.specs.Rows.{Rows, Held, Faces, faces, rest, Sound}
-use Rattle.closest.specs.Live.{Lists}
+use Rattle.closest.specs.declared.live.Lists.{Lists}
 use Rattle.closest.specs.Blocks.{Kept, Fenced, Spent}
 use Rattle.closest.specs.Order.{Table}
-use Rattle.closest.specs.Chain.{Pushed, Mutually, Trimmed, Takes, amount, lose, link_row, Taken, bit, whole, Ready, Room, Good, Stepped}
-use Rattle.closest.proofs.Laws.Spans.{held}
+use Rattle.closest.specs.Chain.{Pushed, Mutually, Trimmed, Takes, amount, lose, link_row, Taken, whole, Ready, Room, Good, Stepped}
+use Rattle.closest.proofs.Laws.Spans.{fit_again, held}
 use Rattle.closest.proofs.Laws.Rest.{off_rows, lose_le, rest_take}
 use Rattle.closest.proofs.Laws.Blocks.{fenced_again}
 use Rattle.closest.proofs.Laws.Chain.{room, short, push, cut}
-
-true-false : {A : Type 0} → true ≡ false → A
-true-false p = let z : ◌≡◌ {A = ℕ} 0 1 = cc in absurd (omega arith)
-
--- What rows have left does not matter to the rest of the set.
-sound_left : (R : Rows) (left less : List ℕ) → length less ≡ set_rows → Sound R left → Sound R less
-sound_left R left less e v = record { numbers = v.numbers; positions = v.positions; capacities = e; spans = v.spans; inside = v.inside; distinct = v.distinct }
 
 -- A's row loses the lesser of what the two rows have left, then B's row.
 module _ (R : Rows) (left : List ℕ) (v : Sound R left) (p : Pick) (t : Takes R left p) (m : ℕ) (is : m ≡ amount left p) where
@@ -45,7 +36,7 @@ module _ (R : Rows) (left : List ℕ) (v : Sound R left) (p : Pick) (t : Takes R
 
   pub take_second : (Sound R left₁ × Held R p.b) × (Kept R left₁ Q₁ E₁ × ((m ≤ get_or left₁ p.b 0) × (1 ≤ get_or left₁ p.b 0)))
   take_second = (
-    (sound_left R left left₁ (rw a.lefts (simp length-set v.capacities)) v, held R v.spans master_b t.on_b),
+    (fit_again v left₁ (rw a.lefts (simp length-set v.capacities)), held R v.spans master_b t.on_b),
     (a.kept, (omega (arith, kept_b), omega (arith, kept_b, t.some_b))),
   )
 
@@ -57,38 +48,29 @@ module _ (R : Rows) (left : List ℕ) (v : Sound R left) (p : Pick) (t : Takes R
     links = rw is at e;
   }
 
-module _ (R : Rows) (left : List ℕ) (Q : Lists) (E : List (List ℕ)) (X : List (List ℤ)) (chain : List ℕ) (L : Table) (s : State) (g : Good R left Q E X chain L s) (on : s.more ≡ true) where
-  abbrev r : Ready R left Q E X chain s
+module _ (R : Rows) (left : List ℕ) (Q : Lists) (E : List (List ℕ)) (X : List (List ℤ)) (chain : List ℕ) (L : Table) (depth n : ℕ) (g : Good R left Q E X chain L depth n) where
+  abbrev r : Ready R left Q E X chain depth
   r = g.ready
 
-  pub stepped_stop : rest R left ≡ [] → Stepped R X left L s left Q E chain L (record { depth = s.depth; links = s.links; more = false })
-  stepped_stop e = record {
-    good = record { ready = record { sound = r.sound; kept = r.kept; fenced = r.fenced; path = r.path }; room = g.room };
-    same = refl;
-    falls = omega (arith, ap bit on);
-    ends = λ q. e;
-  }
+  pub depth_low : depth < length chain
+  depth_low = room R left r.sound chain depth r.path
 
-  pub depth_low : s.depth < length chain
-  depth_low = room R left r.sound chain s.depth r.path
-
-  pub stepped_push : (w : ℕ) → Pushed R left chain s.depth w
-      → Stepped R X left L s left Q E (set chain s.depth w) L (record { depth = s.depth + 1; links = s.links; more = s.more })
+  pub stepped_push : (w : ℕ) → Pushed R left chain depth w
+      → Stepped R X left L depth n left Q E (set chain depth w) L (depth + 1) n
   stepped_push w p = record {
     good = record {
-      ready = record { sound = r.sound; kept = r.kept; fenced = r.fenced; path = push R left r.sound chain s.depth r.path w p };
+      ready = record { sound = r.sound; kept = r.kept; fenced = r.fenced; path = push R left r.sound chain depth r.path w p };
       room = g.room;
     };
     same = refl;
     falls = omega (arith, depth_low, r.path.room);
-    ends = λ e. true-false (sym on ∙ e);
   }
 
-  module _ (p : Pick) (q₀ : Mutually R left chain s.depth p.a p.b p.distance × (p.a < half)) where
-    abbrev m : Mutually R left chain s.depth p.a p.b p.distance
+  module _ (p : Pick) (q₀ : Mutually R left chain depth p.a p.b p.distance × (p.a < half)) where
+    abbrev m : Mutually R left chain depth p.a p.b p.distance
     m = q₀.0
 
-    pub deep : 2 ≤ s.depth
+    pub deep : 2 ≤ depth
     deep = m.deep
 
     sides : On R.spans master_a p.a × On R.spans master_b p.b
@@ -110,7 +92,7 @@ module _ (R : Rows) (left : List ℕ) (Q : Lists) (E : List (List ℕ)) (X : Lis
     fewer : length (rest R left) ≡ suc (length (rest R new))
     fewer = ap length first ∙ put_length link (rest R new)
 
-    pub has_row : s.links < length L
+    pub has_row : n < length L
     has_row = omega (arith, fewer, g.room.most, g.room.size)
 
     pub may_take : Takes R left p
@@ -123,35 +105,34 @@ module _ (R : Rows) (left : List ℕ) (Q : Lists) (E : List (List ℕ)) (X : Lis
     same_off = off_rows R left r.sound p sides.0 sides.1 (amount left p)
 
     -- The pair is taken.
-    take : (n : ℕ) (O : Lists) (F : List (List ℕ)) (chain' : List ℕ) → Trimmed new chain s.depth chain' n → Kept R new O F → Fenced R F X
-        → Stepped R X left L s new O F chain' (set L s.links (link_row R p (amount left p))) (record { depth = n; links = s.links + 1; more = s.more })
+    take : (d : ℕ) (O : Lists) (F : List (List ℕ)) (chain' : List ℕ) → Trimmed new chain depth chain' d → Kept R new O F → Fenced R F X
+        → Stepped R X left L depth n new O F chain' (set L n (link_row R p (amount left p))) d (n + 1)
     unfolding whole
-    take n O F chain' t k f = record {
+    take d O F chain' t k f = record {
       good = record {
         ready = record {
-          sound = sound_left R left new (simp length-set r.sound.capacities) r.sound;
+          sound = fit_again r.sound new (simp length-set r.sound.capacities);
           kept = k;
           fenced = f;
-          path = cut R left r.sound chain s.depth r.path new chain' n deep lower (λ h l. same_off (get_or chain h 0) (m.not_i h l) (m.not_j h l)) t;
+          path = cut R left r.sound chain depth r.path new chain' d deep lower (λ h l. same_off (get_or chain h 0) (m.not_i h l) (m.not_j h l)) t;
         };
         room = record { size = simp length-set g.room.size; most = omega (arith, fewer, g.room.most) };
       };
       same =
-          ap (λ (K : List Link). puts K (rest R new)) (link_more L s.links (link_row R p (amount left p)) has_row)
-          ∙ puts_snoc (links_in L s.links) link (rest R new)
-          ∙ ap (puts (links_in L s.links)) (sym first);
+          ap (λ (K : List Link). puts K (rest R new)) (link_more L n (link_row R p (amount left p)) has_row)
+          ∙ puts_snoc (links_in L n) link (rest R new)
+          ∙ ap (puts (links_in L n)) (sym first);
       falls = omega (arith, fewer);
-      ends = λ e. true-false (sym on ∙ e);
     }
 
     -- The same, with what was stored in hand.
-    pub stepped_take : (left' : List ℕ) (O : Lists) (F : List (List ℕ)) (chain' : List ℕ) (L' : Table) (n : ℕ) → Taken R left E p s.links L left' O F L' → Trimmed left' chain s.depth chain' n
-        → Stepped R X left L s left' O F chain' L' (record { depth = n; links = s.links + 1; more = s.more })
-    stepped_take left' O F chain' L' n k t = rw (k.lefts, k.links) (take n O F chain' (rw k.lefts at t) (rw k.lefts at k.kept) (fenced_again R E F X k.leasts r.fenced))
+    pub stepped_take : (left' : List ℕ) (O : Lists) (F : List (List ℕ)) (chain' : List ℕ) (L' : Table) (d : ℕ) → Taken R left E p n L left' O F L' → Trimmed left' chain depth chain' d
+        → Stepped R X left L depth n left' O F chain' L' d (n + 1)
+    stepped_take left' O F chain' L' d k t = rw (k.lefts, k.links) (take d O F chain' (rw k.lefts at t) (rw k.lefts at k.kept) (fenced_again R E F X k.leasts r.fenced))
 
 -- A run begins with an empty chain and the links that are there.
 pub good_start : (R : Rows) (left : List ℕ) (Q : Lists) (E : List (List ℕ)) (X : List (List ℤ)) (chain : List ℕ) (L : Table) (n : ℕ) → Sound R left → Kept R left Q E → Fenced R E X → length chain ≡ chain_rows → Room R left L n
-    → Good R left Q E X chain L (record { depth = 0; links = n; more = true })
+    → Good R left Q E X chain L 0 n
 good_start R left Q E X chain L n v k f e w = record {
   ready = record {
     sound = v;

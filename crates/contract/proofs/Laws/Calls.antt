@@ -1,8 +1,7 @@
 -- The five calls are lawful, and may stand in a history.
-use Rattle.std.specs.Prelude.{ℕ, ◌*◌, ◌≤◌, ◌≡◌, refl, List, [], ◌∷◌, length, take, drop}
+use Rattle.std.specs.Prelude.{ℕ, ◌*◌, ◌≤◌, ◌≡◌, refl, List, [], ◌∷◌, length, take, drop, Ok, Option, None, Some}
 use Rattle.std.proofs.Common.{◌∙◌, ap, ap₂, subst, arith}
-use Rattle.std.proofs.Math.Option.{Option, none, some}
-use Rattle.matching.specs.Definitions.Nodes.{master_a, master_b}
+use Rattle.matching.specs.declared.Master.TheVariants.{A as master_a, B as master_b}
 use Rattle.matching.specs.Definitions.Links.{Link, common}
 use Rattle.tables.specs.Definitions.Sizes.{link_size, link_rows}
 use Rattle.tables.specs.Definitions.Lists.{list_bytes, finished, first_difference}
@@ -12,7 +11,6 @@ use Rattle.tables.specs.Laws.Fields.{bytes_drop}
 use Rattle.tables.proofs.Laws.ListCode.{common_room}
 use Rattle.tables.specs.Laws.Compare.{same_difference}
 use Rattle.tables.proofs.Laws.Edits.{Passes}
-use Rattle.contract.specs.declared.Answer.TheVariants.{Done}
 use Rattle.contract.specs.Definitions.Answers.{code_of}
 use Rattle.contract.specs.Definitions.Buffers.{Buffers, paired, lengths_of, Drawing, links, drawn, links_of, buffers, master_named, nodes_named}
 use Rattle.contract.specs.Definitions.Shapes.{outcome, turn}
@@ -37,19 +35,19 @@ pair_lawful = record {
 pair_faithful : Faithful pair_shape
 pair_faithful = record { same = same; good = λ d r. r.good; ahead = λ d r. tt }
   where
-    same : (d : Drawing) → Ready pair_shape d → pair_shape.done (buffers d) ≡ shown (turn (Done (length (links d))) [] d)
+    same : (d : Drawing) → Ready pair_shape d → pair_shape.done (buffers d) ≡ shown (turn (Ok (length (links d))) [] d)
     same d r =
-        ap (λ (c : Drawing). outcome (Done (length (links c))) (paired (buffers d).a (buffers d).b) []) (drawn_back d r.good)
-        ∙ ap (λ (h : Buffers). outcome (Done (length (links d))) h []) (drawn_paired d r.good)
+        ap (λ (c : Drawing). outcome (Ok (length (links c))) (paired (buffers d).a (buffers d).b) []) (drawn_back d r.good)
+        ∙ ap (λ (h : Buffers). outcome (Ok (length (links d))) h []) (drawn_paired d r.good)
 
 -- Step.
 step_value : (h : Buffers) (o : Option ℕ) → (stepped h o).code ≤ link_rows
-step_value h none = omega arith
-step_value h (some k) = omega arith
+step_value h None = omega arith
+step_value h (Some k) = omega arith
 
 step_bytes : (h : Buffers) → HeldBytes h → (o : Option ℕ) → Written (stepped h o)
-step_bytes h b none = record { held = b; others = tt }
-step_bytes h b (some k) =
+step_bytes h b None = record { held = b; others = tt }
+step_bytes h b (Some k) =
     let f = finished h.a h.b in
     record {
       held = record {
@@ -70,14 +68,14 @@ step_lawful = record {
 step_faithful : Faithful step_shape
 step_faithful = record { same = same; good = λ d r. r.good; ahead = λ d r. tt }
   where
-    same : (d : Drawing) → Ready step_shape d → step_shape.done (buffers d) ≡ shown (turn (Done 0) [] d)
+    same : (d : Drawing) → Ready step_shape d → step_shape.done (buffers d) ≡ shown (turn (Ok 0) [] d)
     same d r = ap (stepped (buffers d)) whole
       where
-        whole : first_difference (buffers d).list (finished (buffers d).a (buffers d).b) ≡ none
+        whole : first_difference (buffers d).list (finished (buffers d).a (buffers d).b) ≡ None
         whole = unfold buffers in rw (drawn_list d r.good) (same_difference (list_bytes (links d)))
 
 -- Edit.
-edit_value : (h : Buffers) (J : List Link) → code_of (Done (common (links_of h) J)) ≤ link_rows
+edit_value : (h : Buffers) (J : List Link) → code_of (Ok (common (links_of h) J)) ≤ link_rows
 edit_value h J = omega (arith, links_room h.a h.b, (common_room (links_of h) J).0)
 
 edit_bytes : (e : List ℕ) (h : Buffers) → HeldBytes h → Passes e (nodes_named (drawn h) (master_of e)) → Passed (lengths_of h) (edit_shape e) h → HeldBytes (edited e h)
@@ -97,10 +95,10 @@ module _ (e : List ℕ) (d : Drawing) (r : Ready (edit_shape e) d) where
   passes : Passes e (nodes_named d (master_of e))
   passes = subst (λ (c : Drawing). Passes e (nodes_named c (master_of e))) (drawn_back d r.good) (edit_passes r.lengths e (buffers d) r.others.0 r.passed)
 
-  edit_same : (edit_shape e).done (buffers d) ≡ shown (turn (Done (common (links d) (links (redrawn e d)))) (e ∷ []) (redrawn e d))
+  edit_same : (edit_shape e).done (buffers d) ≡ shown (turn (Ok (common (links d) (links (redrawn e d)))) (e ∷ []) (redrawn e d))
   edit_same =
-      ap (λ (h : Buffers). outcome (Done (common (links_of (buffers d)) (links_of h))) h (e ∷ [])) (edited_drawn d r.good e passes)
-      ∙ ap₂ (λ (b c : Drawing). outcome (Done (common (links b) (links c))) (buffers (redrawn e d)) (e ∷ [])) (drawn_back d r.good) (drawn_back (redrawn e d) (redrawn_good d r.good e passes))
+      ap (λ (h : Buffers). outcome (Ok (common (links_of (buffers d)) (links_of h))) h (e ∷ [])) (edited_drawn d r.good e passes)
+      ∙ ap₂ (λ (b c : Drawing). outcome (Ok (common (links b) (links c))) (buffers (redrawn e d)) (e ∷ [])) (drawn_back d r.good) (drawn_back (redrawn e d) (redrawn_good d r.good e passes))
 
 edit_faithful : (e : List ℕ) → Faithful (edit_shape e)
 edit_faithful e = record {
@@ -118,7 +116,7 @@ spare_lawful m n = record {
 }
 
 spare_faithful : (m n : ℕ) → Faithful (spare_shape m n)
-spare_faithful m n = record { same = λ d r. ap (λ (c : Drawing). outcome (Done (left m n c)) (buffers d) []) (drawn_back d r.good); good = λ d r. r.good; ahead = λ d r. tt }
+spare_faithful m n = record { same = λ d r. ap (λ (c : Drawing). outcome (Ok (left m n c)) (buffers d) []) (drawn_back d r.good); good = λ d r. r.good; ahead = λ d r. tt }
 
 -- Bands.
 bands_lawful : (c : List ℕ) → Lawful (bands_shape c)
@@ -129,7 +127,7 @@ bands_lawful c = record {
 }
 
 bands_faithful : (c : List ℕ) → Faithful (bands_shape c)
-bands_faithful c = record { same = λ d r. ap (λ (c : Drawing). outcome (Done 0) (buffers d) (band_bytes (links c) ∷ [])) (drawn_back d r.good); good = λ d r. r.good; ahead = λ d r. tt }
+bands_faithful c = record { same = λ d r. ap (λ (c : Drawing). outcome (Ok 0) (buffers d) (band_bytes (links c) ∷ [])) (drawn_back d r.good); good = λ d r. r.good; ahead = λ d r. tt }
 
 pub lawful : (q : Request) → Lawful (shape q)
 lawful pair = pair_lawful

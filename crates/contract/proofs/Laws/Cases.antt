@@ -1,13 +1,14 @@
 -- Laws by which document 01's cases are computed on nodes and links, not on whole tables.
-use Rattle.std.specs.Prelude.{ℕ, ◌<◌, ◌≤◌, ◌≡◌, Bool, not, ◌&&◌, List, [], ◌∷◌, leb, ltb, nat_abs, length, get_or}
+use Rattle.std.specs.Prelude.{ℕ, ◌<◌, ◌≤◌, ◌≡◌, Bool, not, ◌&&◌, List, [], ◌∷◌, leb, ltb, nat_abs, length, get_or, Option, None, Some}
 use Rattle.std.proofs.Math.Path.{refl, sym, ap}
 use Rattle.std.proofs.Common.{◌∙◌, arith, leb-true, ltb-true}
 use Rattle.std.proofs.Math.Bool.{true, false}
-use Rattle.std.proofs.Math.Option.{Option, none, some}
 use Rattle.std.proofs.Math.Dec.{eqb}
 use Rattle.std.proofs.lemmas.Bool.{not-true}
 use Rattle.matching.specs.Definitions.Lists.{All}
-use Rattle.matching.specs.Definitions.Nodes.{Master, master_a, master_b, each, Node, Unique, has}
+use Rattle.matching.specs.declared.Master.{Master}
+use Rattle.matching.specs.declared.Master.TheVariants.{A as master_a, B as master_b}
+use Rattle.matching.specs.Definitions.Nodes.{each, Node, Unique, has}
 use Rattle.matching.specs.Definitions.Links.{Link}
 use Rattle.tables.specs.Definitions.Sizes.{number_end, farthest, most, most_sort, node_rows, link_rows, list_size}
 use Rattle.tables.specs.Definitions.Rows.{all_from}
@@ -18,8 +19,7 @@ use Rattle.tables.proofs.Laws.Faultless.{table_accepted}
 use Rattle.tables.specs.Laws.Lists.{GoodLink}
 use Rattle.tables.specs.Laws.Compare.{same_difference}
 use Rattle.tables.proofs.Laws.Edited.{has_none}
-use Rattle.contract.specs.declared.Answer.{Answer}
-use Rattle.contract.specs.declared.Answer.TheVariants.{Refused}
+use Rattle.contract.specs.Definitions.Answers.{Answer, refused}
 use Rattle.contract.specs.declared.Refusal.TheVariants.{TableA, TableB, Damaged, Unfinished}
 use Rattle.contract.specs.Definitions.Buffers.{Buffers, lent, lengths_of, stated_lengths, Drawing, Good, links, drawn, buffers}
 use Rattle.contract.specs.Definitions.Shapes.{reads, needs_all, OfBytes, outcome, Turn, turn, Shape}
@@ -101,10 +101,10 @@ module _ (d : Drawing) (g : Good d) where
   by_nodes q o p r j = call-shown (shape q) (lawful q) (faithful q) d g o (stands (refusal stated_lengths (shape q) (buffers d)) (shape q).acts p) ∙ ap shown turned
     where
       stands : (r : Option Answer) (f : Option (Drawing → Turn)) → Plays f → Stands r f
-      stands none f h = h
-      stands (some r) f h = tt
+      stands None f h = h
+      stands (Some r) f h = tt
 
-      same : first_difference (buffers d).list (finished (buffers d).a (buffers d).b) ≡ none
+      same : first_difference (buffers d).list (finished (buffers d).a (buffers d).b) ≡ None
       same = unfold buffers in rw (drawn_list d g) (same_difference (list_bytes (links d)))
 
       left : refusal stated_lengths (shape q) (buffers d) ≡ own_answer (shape q) (drawn (buffers d))
@@ -115,8 +115,8 @@ module _ (d : Drawing) (g : Good d) where
 
   -- The zero list where there are links: 5, with row 0.
   pub on_zero : (x : Shape) → needs_all x.list ≡ true → Tried x (drawn (lent a b (list_bytes []))) Unfinished → lengths_right stated_lengths x ≡ true → length (list_bytes []) ≡ list_size → 0 < length (links d)
-      → call x (lent a b (list_bytes [])) ≡ outcome (Refused Unfinished 0) (lent a b (list_bytes [])) x.others
-  on_zero x n t r h m = call_refused x (lent a b (list_bytes [])) (Refused Unfinished 0) (rw (sized (list_bytes []) h)
+      → call x (lent a b (list_bytes [])) ≡ outcome (refused Unfinished 0) (lent a b (list_bytes [])) x.others
+  on_zero x n t r h m = call_refused x (lent a b (list_bytes [])) (refused Unfinished 0) (rw (sized (list_bytes []) h)
       (unfinished stated_lengths x (lent a b (list_bytes [])) r (accepts master_a).faultless (accepts master_b).faultless t 0 (rw (drawn_list d g) (leading_differs J good room 0 m)) n (leading_zero J good room 0 m)))
     where
       J : List Link
@@ -131,10 +131,10 @@ module _ (d : Drawing) (g : Good d) where
   -- A list whose first row is not the finished one's, with a byte j that is not zero: 4, with row 0.
   pub on_damaged : (x : Shape) (l : List ℕ) → length l ≡ list_size → reads x.list ≡ true → Tried x (drawn (lent a b l)) Damaged → lengths_right stated_lengths x ≡ true
       → differs l (list_bytes (links d)) 0 ≡ true → (j : ℕ) → j < list_size → eqb (get_or l j 0) 0 ≡ false
-      → call x (lent a b l) ≡ outcome (Refused Damaged 0) (lent a b l) x.others
-  on_damaged x l h n t r f j k z = call_refused x (lent a b l) (Refused Damaged 0) (rw (sized l h) (damaged stated_lengths x (lent a b l) r (accepts master_a).faultless (accepts master_b).faultless t 0 first n rest))
+      → call x (lent a b l) ≡ outcome (refused Damaged 0) (lent a b l) x.others
+  on_damaged x l h n t r f j k z = call_refused x (lent a b l) (refused Damaged 0) (rw (sized l h) (damaged stated_lengths x (lent a b l) r (accepts master_a).faultless (accepts master_b).faultless t 0 first n rest))
     where
-      first : first_difference l (finished a b) ≡ some 0
+      first : first_difference l (finished a b) ≡ Some 0
       first = first_leaves (lent a b l) 0 (record { low = omega arith; here = rw (drawn_list d g) f; ahead = λ i t. absurd (omega arith) })
 
       rest : zero_from l 0 ≡ false
@@ -146,8 +146,8 @@ module _ (d : Drawing) (g : Good d) where
 
 -- The first faulty row: of A 2, of B 3, with the row.
 module _ (x : Shape) (h : Buffers) (r : lengths_right (lengths_of h) x ≡ true) (k : ℕ) where
-  pub on_faulty-a : Tried x (drawn h) TableA → First (faulty h.a) node_rows k → call x h ≡ outcome (Refused TableA k) h x.others
-  on_faulty-a t f = call_refused x h (Refused TableA k) (faulty_a (lengths_of h) x h r t k (first_fault_lem h.a k f))
+  pub on_faulty-a : Tried x (drawn h) TableA → First (faulty h.a) node_rows k → call x h ≡ outcome (refused TableA k) h x.others
+  on_faulty-a t f = call_refused x h (refused TableA k) (faulty_a (lengths_of h) x h r t k (first_fault_lem h.a k f))
 
-  pub on_faulty-b : Tried x (drawn h) TableB → first_fault h.a ≡ none → First (faulty h.b) node_rows k → call x h ≡ outcome (Refused TableB k) h x.others
-  on_faulty-b t e f = call_refused x h (Refused TableB k) (faulty_b (lengths_of h) x h r e t k (first_fault_lem h.b k f))
+  pub on_faulty-b : Tried x (drawn h) TableB → first_fault h.a ≡ None → First (faulty h.b) node_rows k → call x h ≡ outcome (refused TableB k) h x.others
+  on_faulty-b t e f = call_refused x h (refused TableB k) (faulty_b (lengths_of h) x h r e t k (first_fault_lem h.b k f))

@@ -3,7 +3,9 @@ use Rattle.std.specs.Prelude.{ℕ, ◌≤◌, ◌≡◌, refl, List, length}
 use Rattle.std.proofs.Math.Path.{sym}
 use Rattle.std.proofs.Common.{◌∙◌, arith}
 use Rattle.std.proofs.Math.Seq.{take_all}
-use Rattle.matching.specs.Definitions.Nodes.{Master, master_a, master_b, each, Node}
+use Rattle.matching.specs.declared.Master.{Master}
+use Rattle.matching.specs.declared.Master.TheVariants.{A as master_a, B as master_b}
+use Rattle.matching.specs.Definitions.Nodes.{each, Node}
 use Rattle.tables.specs.Definitions.Sizes.{list_size, link_rows}
 use Rattle.tables.specs.Definitions.Tables.{nodes_in, table_bytes, GoodNodes}
 use Rattle.tables.specs.Definitions.Lists.{list_bytes, finished}

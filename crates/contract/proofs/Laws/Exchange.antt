@@ -1,14 +1,15 @@
 -- The calls on two tables with their finished list, and on the same tables exchanged.
-use Rattle.std.specs.Prelude.{ℕ, zero, suc, ◌≡◌, Bool, cond, ◌&&◌, ◌||◌, leb, length}
+use Rattle.std.specs.Prelude.{ℕ, zero, suc, ◌≡◌, Bool, cond, ◌&&◌, ◌||◌, leb, length, Ok, Option, None, Some}
 use Rattle.std.proofs.Math.Path.{refl, ap}
 use Rattle.std.proofs.Common.{sym, ◌∙◌, ap₂, arith, ne_eqb, eqb-true}
 use Rattle.std.proofs.Math.Bool.{true, false}
-use Rattle.std.proofs.Math.Option.{Option, none, some}
 use mathlib.Core.List.{List, [], ◌∷◌, ◌++◌, Memᴰ}
 use Rattle.std.proofs.Math.Decide.{ℕ_discrete}
 use Rattle.std.proofs.Math.Dec.{eqb}
 use Rattle.std.proofs.lemmas.Bool.{lt-leb}
-use Rattle.matching.specs.Definitions.Nodes.{Master, master_a, master_b, each, other, Node, Unique, has}
+use Rattle.matching.specs.declared.Master.{Master}
+use Rattle.matching.specs.declared.Master.TheVariants.{A as master_a, B as master_b}
+use Rattle.matching.specs.Definitions.Nodes.{each, other, Node, Unique, has}
 use Rattle.matching.specs.Definitions.Links.{Link, exchange}
 use Rattle.matching.specs.Definitions.Join as theory
 use Rattle.matching.specs.Definitions.Join.{join}
@@ -21,10 +22,8 @@ use Rattle.tables.specs.Definitions.Lists.{finished}
 use Rattle.tables.specs.Definitions.Bands.{binary_digits, band, bands_from, band_bytes}
 use Rattle.tables.proofs.Laws.Accepted.{nodes_good}
 use Rattle.tables.specs.Laws.Compare.{same_difference}
-use Rattle.contract.specs.declared.Answer.{Answer}
-use Rattle.contract.specs.declared.Answer.TheVariants.{Done, Refused}
+use Rattle.contract.specs.Definitions.Answers.{Answer, refused, code_of}
 use Rattle.contract.specs.declared.Refusal.TheVariants.{Length, Master as WrongMaster, Field, Number}
-use Rattle.contract.specs.Definitions.Answers.{code_of}
 use Rattle.contract.specs.Definitions.Buffers.{paired, lengths_of, drawn, links_of, master_named}
 use Rattle.contract.specs.Definitions.Shapes.{Shape, Outcome, outcome}
 use Rattle.contract.specs.Definitions.Requests.{spare_shape, bands_shape}
@@ -58,11 +57,11 @@ found n (v ∷ A) h = go (eqb v.number n) refl h (found n A)
 
 -- Spare's answer, by whether the number is 0, whether it is there, and what is left.
 abbrev answer : Bool → Bool → ℕ → Answer
-answer nought there v = cond nought (Refused Field 0) (cond there (Done v) (Refused Number 0))
+answer nought there v = cond nought (refused Field 0) (cond there (Ok v) (refused Number 0))
 
 answer_same : (z h : Bool) (v w : ℕ) → (h ≡ true → v ≡ w) → answer z h v ≡ answer z h w
 answer_same true h v w e = refl
-answer_same false true v w e = ap Done (e refl)
+answer_same false true v w e = ap Ok (e refl)
 answer_same false false v w e = refl
 
 module _ (a b : List ℕ) (ha : Accepted a) (hb : Accepted b) where
@@ -79,16 +78,16 @@ module _ (a b : List ℕ) (ha : Accepted a) (hb : Accepted b) where
       go : (t u : Bool) → eqb n 0 ≡ t → has n (each (nodes_in a) (nodes_in b) s) ≡ u
           → (refused_or (own_answer (spare_shape m n) (drawn (paired a b))) (unchanged (spare_shape m n) (paired a b)) ((spare_shape m n).done (paired a b))).code
           ≡ code_of (answer t u (theory.spare s (nodes_in a) (nodes_in b) n))
-      go true u x y = code (some (Refused Field 0)) (unfold own_answer in rw (h, x)) (Refused Field 0) refl
-      go false false x y = code (some (Refused Number 0)) (unfold own_answer in rw (h, x, e, y)) (Refused Number 0) refl
-      go false true x y = code none (unfold own_answer in rw (h, x, e, y)) (Done (theory.spare s (nodes_in a) (nodes_in b) n)) (rw e)
+      go true u x y = code (Some (refused Field 0)) (unfold own_answer in rw (h, x)) (refused Field 0) refl
+      go false false x y = code (Some (refused Number 0)) (unfold own_answer in rw (h, x, e, y)) (refused Number 0) refl
+      go false true x y = code None (unfold own_answer in rw (h, x, e, y)) (Ok (theory.spare s (nodes_in a) (nodes_in b) n)) (rw e)
 
   -- Of no master.
-  spare_none : (m n : ℕ) → leb m 1 ≡ false → (call (spare_shape m n) (paired a b)).code ≡ code_of (Refused WrongMaster 0)
+  spare_none : (m n : ℕ) → leb m 1 ≡ false → (call (spare_shape m n) (paired a b)).code ≡ code_of (refused WrongMaster 0)
   spare_none m n h = ap (λ (o : Outcome). o.code) (paired-call a b ha hb (spare_shape m n) refl refl)
       ∙ ap (λ (x : Option Answer). (refused_or x (unchanged (spare_shape m n) (paired a b)) ((spare_shape m n).done (paired a b))).code) own
     where
-      own : own_answer (spare_shape m n) (drawn (paired a b)) ≡ some (Refused WrongMaster 0)
+      own : own_answer (spare_shape m n) (drawn (paired a b)) ≡ Some (refused WrongMaster 0)
       own = unfold own_answer in rw h
 
 -- A node has as much to spare where its master comes in the other place.
@@ -134,7 +133,7 @@ bands_exchanged A B ua ub = bands_same (join B A) (join A B) same band_count 0
         ∙ sum_of_map (λ (l : Link). cond (eqb (binary_digits l.distance) k) 1 0) exchange (join A B)
 
 -- Counts of another length are refused.
-pub bands_wrong : (a b c : List ℕ) → eqb (length c) counts_size ≡ false → call (bands_shape c) (paired a b) ≡ outcome (Refused Length 0) (paired a b) (c ∷ [])
+pub bands_wrong : (a b c : List ℕ) → eqb (length c) counts_size ≡ false → call (bands_shape c) (paired a b) ≡ outcome (refused Length 0) (paired a b) (c ∷ [])
 bands_wrong a b c e = wrong_call (bands_shape c) (paired a b) wrong
   where
     and_false : (s t u : Bool) → (s && (t && (u && false))) ≡ false
@@ -149,7 +148,7 @@ bands_wrong a b c e = wrong_call (bands_shape c) (paired a b) wrong
 
 -- Counts of the right length are filled.
 pub bands_filled : (a b c : List ℕ) → Accepted a → Accepted b → eqb (length c) counts_size ≡ true
-    → call (bands_shape c) (paired a b) ≡ outcome (Done 0) (paired a b) (band_bytes (links_of (paired a b)) ∷ [])
+    → call (bands_shape c) (paired a b) ≡ outcome (Ok 0) (paired a b) (band_bytes (links_of (paired a b)) ∷ [])
 bands_filled a b c ha hb e = paired-call a b ha hb (bands_shape c) e refl ∙ done
   where
     done : refused_or (own_answer (bands_shape c) (drawn (paired a b))) (unchanged (bands_shape c) (paired a b)) ((bands_shape c).done (paired a b)) ≡ (bands_shape c).done (paired a b)

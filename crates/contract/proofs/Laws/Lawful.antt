@@ -1,13 +1,11 @@
 -- What a shape has to satisfy, and what follows for its calls.
-use Rattle.std.specs.Prelude.{◌≤◌, ◌≡◌}
+use Rattle.std.specs.Prelude.{◌≤◌, ◌≡◌, Option, None, Some}
 use Rattle.std.proofs.Math.Path.{refl}
 use Rattle.std.proofs.Common.{ap, arith}
-use Rattle.std.proofs.Math.Option.{Option, none, some}
 use Rattle.matching.specs.Definitions.Lists.{All}
 use Rattle.tables.specs.Definitions.Sizes.{link_rows}
 use Rattle.tables.specs.Definitions.Fields.{Bytes}
-use Rattle.contract.specs.declared.Answer.{Answer}
-use Rattle.contract.specs.Definitions.Answers.{order, value_end, code_of}
+use Rattle.contract.specs.Definitions.Answers.{Answer, order, value_end, code_of}
 use Rattle.contract.specs.Definitions.Buffers.{Buffers, Lengths, lengths_of, stated_lengths, Drawing, Good, buffers}
 use Rattle.contract.specs.Definitions.Shapes.{OfBytes, Outcome, IsDone, turn, Shape}
 use Rattle.contract.specs.Definitions.Refusals.{place, refusal, refused_or}
@@ -40,21 +38,21 @@ pub record Lawful (x : Shape) : Type 0 where
   pub bytes : (h : Buffers) → HeldBytes h → OfBytes x → Passed (lengths_of h) x h → Written (x.done h)
 
 -- A refusal is the first that holds, whatever the lengths,
-pub refusal_fits : (s : Lengths) (x : Shape) → Lawful x → (h : Buffers) (a : Answer) → refusal s x h ≡ some a → Found (Holds s x h) order a
+pub refusal_fits : (s : Lengths) (x : Shape) → Lawful x → (h : Buffers) (a : Answer) → refusal s x h ≡ Some a → Found (Holds s x h) order a
 unfolding refusal
 refusal_fits s x w h a e = first_only (Holds s x h) (place s x h) (place_right s x h w.tests) order a e
 
 -- so its code is not that of a done call,
-pub refusal_high : (s : Lengths) (x : Shape) → Lawful x → (h : Buffers) (a : Answer) → refusal s x h ≡ some a → value_end ≤ code_of a
+pub refusal_high : (s : Lengths) (x : Shape) → Lawful x → (h : Buffers) (a : Answer) → refusal s x h ≡ Some a → value_end ≤ code_of a
 refusal_high s x w h a e = let f = refusal_fits s x w h a e in rw f.is_refused (omega (arith, number_low f.refusal))
 
 -- and a done call is not refused.
-pub done_unrefused : (x : Shape) → Lawful x → (h : Buffers) → IsDone (call x h) → refusal (lengths_of h) x h ≡ none
+pub done_unrefused : (x : Shape) → Lawful x → (h : Buffers) → IsDone (call x h) → refusal (lengths_of h) x h ≡ None
 done_unrefused x w h k = go (refusal (lengths_of h) x h) refl
   where
-    go : (o : Option Answer) → refusal (lengths_of h) x h ≡ o → o ≡ none
-    go none i = refl
-    go (some a) i = absurd (omega (arith, refusal_high (lengths_of h) x w h a i, ap (λ (o : Outcome). o.code) (call_refused x h a i)))
+    go : (o : Option Answer) → refusal (lengths_of h) x h ≡ o → o ≡ None
+    go None i = refl
+    go (Some a) i = absurd (omega (arith, refusal_high (lengths_of h) x w h a i, ap (λ (o : Outcome). o.code) (call_refused x h a i)))
 
 -- A call that passes on the bytes of a drawing.
 pub record Ready (x : Shape) (d : Drawing) : Type 0 where
@@ -76,11 +74,11 @@ unfolding call
 call_bytes x w h b o = go (refusal (lengths_of h) x h) refl
   where
     go : (r : Option Answer) → refusal (lengths_of h) x h ≡ r → Written (refused_or r (unchanged x h) (x.done h))
-    go none n = w.bytes h b o (no_refusal (lengths_of h) x h w.tests n)
-    go (some r) n = record { held = b; others = o }
+    go None n = w.bytes h b o (no_refusal (lengths_of h) x h w.tests n)
+    go (Some r) n = record { held = b; others = o }
 
 module _ (x : Shape) (w : Lawful x) (f : Faithful x) (d : Drawing) (g : Good d) (o : OfBytes x) where
-  ready : (s : Lengths) → Stands (refusal s x (buffers d)) x.acts → refusal s x (buffers d) ≡ none → Ready x d
+  ready : (s : Lengths) → Stands (refusal s x (buffers d)) x.acts → refusal s x (buffers d) ≡ None → Ready x d
   ready s p n = record { good = g; others = o; lengths = s; passed = no_refusal s x (buffers d) w.tests n; plays = rw n at p }
 
   -- A call on the bytes of a drawing shows the drawing's turn,
@@ -90,8 +88,8 @@ module _ (x : Shape) (w : Lawful x) (f : Faithful x) (d : Drawing) (g : Good d) 
     where
       go : (r : Option Answer) → refusal stated_lengths x (buffers d) ≡ r
           → refused_or r (unchanged x (buffers d)) (x.done (buffers d)) ≡ shown (refused_or r (λ a. turn a x.others d) (played x.acts x.others d))
-      go none n = f.same d (ready stated_lengths p n)
-      go (some r) n = refl
+      go None n = f.same d (ready stated_lengths p n)
+      go (Some r) n = refl
 
   -- after which its nodes are good again,
   pub answers_good : (s : Lengths) → Stands (refusal s x (buffers d)) x.acts → Good (answers s x d).next
@@ -99,10 +97,10 @@ module _ (x : Shape) (w : Lawful x) (f : Faithful x) (d : Drawing) (g : Good d) 
   answers_good s p = go (refusal s x (buffers d)) refl
     where
       go : (r : Option Answer) → refusal s x (buffers d) ≡ r → Good (refused_or r (λ a. turn a x.others d) (played x.acts x.others d)).next
-      go none n = f.good d (ready s p n)
-      go (some r) n = g
+      go None n = f.good d (ready s p n)
+      go (Some r) n = g
 
   -- and, where it makes an edit and is not refused, the rows ahead are the same.
-  pub answers_ahead : (s : Lengths) → Stands (refusal s x (buffers d)) x.acts → refusal s x (buffers d) ≡ none → Ahead x.edits (buffers d).list (buffers (answers s x d).next).list
+  pub answers_ahead : (s : Lengths) → Stands (refusal s x (buffers d)) x.acts → refusal s x (buffers d) ≡ None → Ahead x.edits (buffers d).list (buffers (answers s x d).next).list
   unfolding answers
   answers_ahead s p n = rw n (f.ahead d (ready s p n))

@@ -1,10 +1,9 @@
 -- A list that holds the first k links of the finished one, zero rows after.
 use Prim.Native.Nat.{ℕ, zero, suc, ◌+◌, ◌*◌, ◌-◌, ◌/◌, ◌<◌, ◌≤◌}
-use Rattle.std.specs.Prelude.{◌≡◌, true, get_or, take, drop}
+use Rattle.std.specs.Prelude.{◌≡◌, true, get_or, take, drop, Some}
 use Rattle.std.proofs.Math.Path.{refl, sym, ap}
 use Rattle.std.proofs.Common.{◌∙◌, true≢false, arith, get_or-append-add, take_at, drop-cons, take-suc, length-take-le, get_or-take}
 use Rattle.std.proofs.Math.Bool.{Bool, false, not}
-use Rattle.std.proofs.Math.Option.{some}
 use mathlib.Core.List.{List, [], ◌∷◌, ◌++◌, append_assoc, append-nil}
 use Rattle.std.proofs.Math.Decide.{dec_lt}
 use Rattle.std.proofs.Math.Dec.{eqb}
@@ -67,7 +66,7 @@ module _ (P : List ℕ) (k : ℕ) (size : length P ≡ link_size * k) where
       go true e = absurd (omega (arith, h.low, nat_none number_size (link_bytes x ++ R) 0 (λ j a b. equal e j (omega arith)), ap (λ (l : Link). l.a) (link_read x R h)))
       go false e = refl
 
-  first_row : (m : ℕ) (x : Link) (R : List ℕ) → GoodLink x → k < link_rows → first_difference (P ++ zeros m) (P ++ (link_bytes x ++ R)) ≡ some k
+  first_row : (m : ℕ) (x : Link) (R : List ℕ) → GoodLink x → k < link_rows → first_difference (P ++ zeros m) (P ++ (link_bytes x ++ R)) ≡ Some k
   unfolding first_difference
   first_row m x R h g = first_is (differs (P ++ zeros m) (P ++ (link_bytes x ++ R))) link_rows 0 k
       (record { from = omega arith; low = omega arith; here = row_differs m x R h; ahead = λ i a b. same_row (zeros m) (link_bytes x ++ R) i b })
@@ -125,7 +124,7 @@ module _ (J : List Link) (good : All GoodLink J) (room : length J ≤ link_rows)
       less = omega arith
 
   -- It differs from all of them in row k first,
-  pub leading_differs : first_difference (list_bytes (take k J)) (list_bytes J) ≡ some k
+  pub leading_differs : first_difference (list_bytes (take k J)) (list_bytes J) ≡ Some k
   leading_differs = rw (short, full) (first_row P k size (list_size - link_size * k) x R (all_get GoodLink J k blank more good) (omega arith))
 
   -- is zero from there on,
@@ -143,7 +142,7 @@ rows_same l f j e i h g = eqb-true (get_or l i 0) (get_or f i 0) (from_all (λ k
 
 -- The other way round: a list that differs in row k first, and is zero from there, holds the first k links.
 module _ (l : List ℕ) (J : List Link) (size : length l ≡ list_size) (room : length J ≤ link_rows) (k : ℕ)
-    (d : first_difference l (list_bytes J) ≡ some k) (z : zero_from l k ≡ true) where
+    (d : first_difference l (list_bytes J) ≡ Some k) (z : zero_from l k ≡ true) where
   first : First (differs l (list_bytes J)) 0 link_rows k
   unfolding first_difference
   first = some_from (differs l (list_bytes J)) link_rows 0 k d

@@ -1,8 +1,9 @@
 -- For programs: what is known of the lent bytes where a call is not refused.
-use Rattle.std.specs.Prelude.{ℕ, ◌*◌, ◌<◌, ◌≡◌, refl, Bool, true, false, cond, not, List, ◌++◌, length, take, drop}
+use Rattle.std.specs.Prelude.{ℕ, ◌*◌, ◌<◌, ◌≡◌, refl, Bool, true, false, cond, not, List, ◌++◌, length, take, drop, None, Some}
 use Rattle.std.proofs.Common.{sym, ◌∙◌, ap, arith}
-use Rattle.std.proofs.Math.Option.{none, some}
-use Rattle.matching.specs.Definitions.Nodes.{Master, master_a, master_b, each}
+use Rattle.matching.specs.declared.Master.{Master}
+use Rattle.matching.specs.declared.Master.TheVariants.{A as master_a, B as master_b}
+use Rattle.matching.specs.Definitions.Nodes.{each}
 use Rattle.matching.specs.Definitions.Links.{common}
 use Rattle.tables.specs.Definitions.Sizes.{link_size, list_size}
 use Rattle.tables.specs.Definitions.Fields.{Bytes}
@@ -53,12 +54,12 @@ unfolding finished
 edit_list a b a' b' = sym (common_anew (links_of (paired a b)) (links_of (paired a' b')))
 
 -- Step has a leading part of the finished list: where a row differs, a link is missing.
-pub has_leading : (h : Buffers) → Passed (lengths_of h) step_shape h → (k : ℕ) → first_difference h.list (finished h.a h.b) ≡ some k
+pub has_leading : (h : Buffers) → Passed (lengths_of h) step_shape h → (k : ℕ) → first_difference h.list (finished h.a h.b) ≡ Some k
     → (k < length (links_of h)) × (h.list ≡ list_bytes (take k (links_of h)))
 unfolding finished damaged_row
 has_leading h u k d = go (zero_from h.list k) refl (rw d at u.undamaged)
   where
-    go : (t : Bool) → zero_from h.list k ≡ t → cond (not t) (some k) none ≡ none → (k < length (links_of h)) × (h.list ≡ list_bytes (take k (links_of h)))
+    go : (t : Bool) → zero_from h.list k ≡ t → cond (not t) (Some k) None ≡ None → (k < length (links_of h)) × (h.list ≡ list_bytes (take k (links_of h)))
     go true z g =
         let r = links_room h.a h.b in
         let s = (stated (lengths_of h) step_shape u.lengths).list in

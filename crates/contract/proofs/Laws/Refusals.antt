@@ -1,22 +1,21 @@
 -- What is known where nothing is refused, place by place, and what a refusal is.
-use Rattle.std.specs.Prelude.{ℕ, Bool, not, ◌&&◌, List, [], ◌∷◌, eqb, leb, length}
+use Rattle.std.specs.Prelude.{ℕ, Bool, not, ◌&&◌, List, [], ◌∷◌, eqb, leb, length, Option, None, Some}
 use Rattle.std.proofs.Math.Path.{◌≡◌, refl}
 use Rattle.std.proofs.Math.Bool.{true, false, cond}
-use Rattle.std.proofs.Math.Option.{Option, none, some}
 use Rattle.std.proofs.Common.{arith, eq-eqb, eqb-true, leb-true}
 use Rattle.std.proofs.lemmas.Bool.{eqb-false, not-false}
-use Rattle.matching.specs.Definitions.Nodes.{Master, master_a, master_b, each, has}
+use Rattle.matching.specs.declared.Master.{Master}
+use Rattle.matching.specs.declared.Master.TheVariants.{A as master_a, B as master_b}
+use Rattle.matching.specs.Definitions.Nodes.{each, has}
 use Rattle.tables.specs.Definitions.Sizes.{edit_size}
 use Rattle.tables.specs.Definitions.Fields.{Bytes}
 use Rattle.tables.specs.Definitions.Tables.{first_fault, Accepted}
 use Rattle.tables.specs.Definitions.Edits.{kind_of, master_of, number_of, edit_fields}
 use Rattle.tables.specs.Laws.Rows.{and_split}
 use Rattle.tables.proofs.Laws.Edits.{Passes}
-use Rattle.contract.specs.declared.Answer.{Answer}
-use Rattle.contract.specs.declared.Answer.TheVariants.{Refused}
+use Rattle.contract.specs.Definitions.Answers.{Answer, refused, refusal_number, order}
 use Rattle.contract.specs.declared.Refusal.{Refusal}
 use Rattle.contract.specs.declared.Refusal.TheVariants.{Length, TableA, TableB, Damaged, Unfinished}
-use Rattle.contract.specs.Definitions.Answers.{refusal_number, order}
 use Rattle.contract.specs.Definitions.Buffers.{Buffers, Lengths, lengths_of, Drawing, drawn, nodes_named}
 use Rattle.contract.specs.Definitions.Shapes.{Test, Shape, outcome}
 use Rattle.contract.specs.Definitions.Requests.{edit_shape}
@@ -34,17 +33,17 @@ Unfit d ts = AllTests (λ t. t.fits d ≡ false) ts
 -- What holds where nothing is refused, by the place.
 pub record Passed (s : Lengths) (x : Shape) (h : Buffers) : Type 0 where
   pub lengths : lengths_right s x ≡ true
-  pub table_a : x.judges ≡ true → first_fault h.a ≡ none
-  pub table_b : x.judges ≡ true → first_fault h.b ≡ none
-  pub undamaged : damaged_row x h ≡ none
-  pub finished : unfinished_row x h ≡ none
+  pub table_a : x.judges ≡ true → first_fault h.a ≡ None
+  pub table_b : x.judges ≡ true → first_fault h.b ≡ None
+  pub undamaged : damaged_row x h ≡ None
+  pub finished : unfinished_row x h ≡ None
   pub tests : Unfit (drawn h) x.tests
 
-unfilled : (b : Bool) (v : ℕ) (o : Option ℕ) → cond b (some v) o ≡ none → (b ≡ false) × (o ≡ none)
+unfilled : (b : Bool) (v : ℕ) (o : Option ℕ) → cond b (Some v) o ≡ None → (b ≡ false) × (o ≡ None)
 unfilled true v o e = absurd (let z : ◌≡◌ {A = ℕ} 0 1 = cc in omega arith)
 unfilled false v o e = (refl, e)
 
-untested : (d : Drawing) (ts : List Test) → AllTests Right ts → ((r : Refusal) → is_own r ≡ true → own r ts d ≡ none) → Unfit d ts
+untested : (d : Drawing) (ts : List Test) → AllTests Right ts → ((r : Refusal) → is_own r ≡ true → own r ts d ≡ None) → Unfit d ts
 unfolding own
 untested d [] w f = tt
 untested d (t ∷ ts) w f = (
@@ -53,7 +52,7 @@ untested d (t ∷ ts) w f = (
 )
 
 module _ (s : Lengths) (x : Shape) (h : Buffers) where
-  pub no_refusal : AllTests Right x.tests → refusal s x h ≡ none → Passed s x h
+  pub no_refusal : AllTests Right x.tests → refusal s x h ≡ None → Passed s x h
   unfolding refusal faulty_row
   no_refusal right n =
       let f = none_fits (place s x h) order n in
@@ -66,28 +65,28 @@ module _ (s : Lengths) (x : Shape) (h : Buffers) where
         tests = untested (drawn h) x.tests right (λ r o. rw (place-own s x h r o) at (f r (placed r)));
       }
     where
-      long : (b : Bool) → cond {A = Option ℕ} b none (some 0) ≡ none → b ≡ true
+      long : (b : Bool) → cond {A = Option ℕ} b None (Some 0) ≡ None → b ≡ true
       long true e = refl
       long false e = absurd (let z : ◌≡◌ {A = ℕ} 0 1 = cc in omega arith)
 
-      judged : {o : Option ℕ} → x.judges ≡ true → cond x.judges o none ≡ none → o ≡ none
+      judged : {o : Option ℕ} → x.judges ≡ true → cond x.judges o None ≡ None → o ≡ None
       judged j e = rw j at e
 
   -- A program that found a wrong length knows the refusal.
-  pub wrong_lengths : lengths_right s x ≡ false → refusal s x h ≡ some (Refused Length 0)
+  pub wrong_lengths : lengths_right s x ≡ false → refusal s x h ≡ Some (refused Length 0)
   unfolding refusal
   wrong_lengths e = rw e
 
 -- A call is refused, with every byte as it was, or done.
 module _ (x : Shape) (h : Buffers) where
-  pub call_refused : (r : Answer) → refusal (lengths_of h) x h ≡ some r → call x h ≡ outcome r h x.others
+  pub call_refused : (r : Answer) → refusal (lengths_of h) x h ≡ Some r → call x h ≡ outcome r h x.others
   unfolding call
   call_refused r e = rw e
 
-  pub wrong_call : lengths_right (lengths_of h) x ≡ false → call x h ≡ outcome (Refused Length 0) h x.others
-  wrong_call e = call_refused (Refused Length 0) (wrong_lengths (lengths_of h) x h e)
+  pub wrong_call : lengths_right (lengths_of h) x ≡ false → call x h ≡ outcome (refused Length 0) h x.others
+  wrong_call e = call_refused (refused Length 0) (wrong_lengths (lengths_of h) x h e)
 
-  pub call-done : refusal (lengths_of h) x h ≡ none → call x h ≡ x.done h
+  pub call-done : refusal (lengths_of h) x h ≡ None → call x h ≡ x.done h
   unfolding call
   call-done e = rw e
 

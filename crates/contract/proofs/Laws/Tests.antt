@@ -1,8 +1,7 @@
 -- Each of a call's own tests fits exactly where its condition holds.
-use Rattle.std.specs.Prelude.{ℕ, ◌≤◌, ◌≡◌, refl, Bool, true, false, cond, not, ◌&&◌, List, [], ◌∷◌, ◌↔◌, eqb, leb, length}
+use Rattle.std.specs.Prelude.{ℕ, ◌≤◌, ◌≡◌, refl, Bool, true, false, cond, not, ◌&&◌, List, [], ◌∷◌, ◌↔◌, eqb, leb, length, Some}
 use Rattle.std.proofs.Common.{sym, ◌∙◌, inl, inr, arith, eq-eqb, ne_eqb, eqb-true, leb-true, le-leb}
 use Rattle.std.proofs.lemmas.Bool.{false≢true, eqb-false, lt-leb, not-true}
-use Rattle.std.proofs.Math.Option.{some}
 use Rattle.matching.specs.Definitions.Nodes.{has}
 use Rattle.tables.specs.Definitions.Sizes.{node_rows}
 use Rattle.tables.specs.Definitions.Edits.{kind_of, master_of, number_of, edit_fields}
@@ -35,7 +34,7 @@ AllTests P [] = Unit {0}
 AllTests P (t ∷ ts) = P t × AllTests P ts
 
 -- One of the tests fits, with 0, exactly where one of the conditions holds;
-pub own_only : (r : Refusal) (ts : List Test) → AllTests Right ts → (d : Drawing) (v : ℕ) → own r ts d ≡ some v → Own r ts d × (0 ≡ v)
+pub own_only : (r : Refusal) (ts : List Test) → AllTests Right ts → (d : Drawing) (v : ℕ) → own r ts d ≡ Some v → Own r ts d × (0 ≡ v)
 unfolding own
 own_only r [] w d v e = absurd (nothing e)
 own_only r (t ∷ ts) w d v e = go (same r t.refusal) (t.fits d) refl refl e (own_only r ts w.1 d v)
@@ -43,18 +42,18 @@ own_only r (t ∷ ts) w d v e = go (same r t.refusal) (t.fits d) refl refl e (ow
     later : Own r ts d × (0 ≡ v) → Own r (t ∷ ts) d × (0 ≡ v)
     later k = (inr k.0, k.1)
 
-    go : (b c : Bool) → same r t.refusal ≡ b → t.fits d ≡ c → cond (b && c) (some 0) (own r ts d) ≡ some v → (own r ts d ≡ some v → Own r ts d × (0 ≡ v)) → Own r (t ∷ ts) d × (0 ≡ v)
+    go : (b c : Bool) → same r t.refusal ≡ b → t.fits d ≡ c → cond (b && c) (Some 0) (own r ts d) ≡ Some v → (own r ts d ≡ Some v → Own r ts d × (0 ≡ v)) → Own r (t ∷ ts) d × (0 ≡ v)
     go true true i j g k = (inl (eqb-true (refusal_number r) (refusal_number t.refusal) i, (w.0.means d).0 j), cc)
     go true false i j g k = later (k g)
     go false c i j g k = later (k g)
 
-pub own_when : (r : Refusal) (ts : List Test) → AllTests Right ts → (d : Drawing) → Own r ts d → own r ts d ≡ some 0
+pub own_when : (r : Refusal) (ts : List Test) → AllTests Right ts → (d : Drawing) → Own r ts d → own r ts d ≡ Some 0
 unfolding own
 own_when r [] w d k = absurd k
 own_when r (t ∷ ts) w d (inl k) = rw (eq-eqb (refusal_number r) (refusal_number t.refusal) k.0, (w.0.means d).1 k.1)
 own_when r (t ∷ ts) w d (inr k) = go (same r t.refusal && t.fits d) (own_when r ts w.1 d k)
   where
-    go : (b : Bool) → own r ts d ≡ some 0 → cond b (some 0) (own r ts d) ≡ some 0
+    go : (b : Bool) → own r ts d ≡ Some 0 → cond b (Some 0) (own r ts d) ≡ Some 0
     go true i = refl
     go false i = i
 

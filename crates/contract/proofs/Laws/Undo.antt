@@ -5,7 +5,9 @@ use Rattle.std.proofs.Common.{◌∙◌, arith}
 use mathlib.Core.List.{List, [], Memᴰ}
 use borrow.Author.Tests.{ne_eqb, le-leb}
 use Rattle.matching.specs.Definitions.Lists.{Reordered, same}
-use Rattle.matching.specs.Definitions.Nodes.{Master, master_a, master_b, each, Node, has}
+use Rattle.matching.specs.declared.Master.{Master}
+use Rattle.matching.specs.declared.Master.TheVariants.{A as master_a, B as master_b}
+use Rattle.matching.specs.Definitions.Nodes.{each, Node, has}
 use Rattle.matching.specs.Definitions.Edits.{arrive, depart, amend, moved, resized}
 use Rattle.matching.proofs.Laws.Lists.{all_at}
 use Rattle.matching.proofs.Laws.Undo.{absent_has, arrived, arrive-depart, departed_absent, departed_length, depart-arrive, amended_has, amend_back}

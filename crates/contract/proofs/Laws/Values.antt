@@ -1,7 +1,8 @@
 -- The values of done calls are low, and what a program writes are bytes.
 use Rattle.std.specs.Prelude.{ℕ, zero, suc, ◌+◌, ◌*◌, ◌<◌, ◌≤◌, ◌≡◌, refl, List, [], ◌∷◌, ◌++◌, length, take, drop}
 use Rattle.std.proofs.Common.{◌∙◌, arith, length-append}
-use Rattle.matching.specs.Definitions.Nodes.{Master, master_a, master_b}
+use Rattle.matching.specs.declared.Master.{Master}
+use Rattle.matching.specs.declared.Master.TheVariants.{A as master_a, B as master_b}
 use Rattle.matching.specs.Definitions.Links.{Link}
 use Rattle.matching.specs.Definitions.Join.{capacities}
 use Rattle.matching.specs.Definitions.Join as theory

@@ -1,11 +1,11 @@
 -- Document 01's cases E1 to E9 come out as it says.
-use Rattle.std.specs.Prelude.{ℕ, zero, suc, ◌+◌, ◌*◌, ◌≤◌, ◌≡◌, true, false, pos, eqb, length, get_or, take, replicate}
+use Rattle.std.specs.Prelude.{ℕ, zero, suc, ◌+◌, ◌*◌, ◌≤◌, ◌≡◌, true, false, pos, eqb, length, get_or, take, replicate, Ok, None}
 use Rattle.std.proofs.Math.Path.{refl, ap, ap₂}
 use Rattle.std.proofs.Common.{◌∙◌, arith, eq-eqb}
-use Rattle.std.proofs.Math.Option.{none}
 use mathlib.Core.List.{List, [], ◌∷◌}
 use Rattle.matching.specs.Definitions.Lists.{All}
-use Rattle.matching.specs.Definitions.Nodes.{master_a, master_b, has}
+use Rattle.matching.specs.declared.Master.TheVariants.{A as master_a, B as master_b}
+use Rattle.matching.specs.Definitions.Nodes.{has}
 use Rattle.matching.specs.Definitions.Links.{Link, common}
 use Rattle.matching.specs.Definitions.Join.{join}
 use Rattle.matching.specs.Cases.{e1, e2, e3, e5, e5x, e6, e7, cases-join, cases_spare, case_kept}
@@ -19,7 +19,6 @@ use Rattle.tables.specs.Definitions.Edits.{number_of, edit_fields, edit_nodes}
 use Rattle.tables.specs.Definitions.Bands.{band_bytes}
 use Rattle.tables.proofs.Laws.Tables.{table_length}
 use Rattle.tables.specs.Laws.Lists.{list_length}
-use Rattle.contract.specs.declared.Answer.TheVariants.{Done}
 use Rattle.contract.specs.declared.Refusal.TheVariants.{TableA, TableB, Damaged, Unfinished}
 use Rattle.contract.specs.Definitions.Answers.{value_end}
 use Rattle.contract.specs.Definitions.Buffers.{Buffers, lent, lengths_of, stated_lengths, Drawing, drawing, Good, links, drawn, links_of, buffers}
@@ -70,7 +69,7 @@ module _ (d : theory.Case) (k : Known d) where
   unfolding Right
   on_pair =
       pair_done a b (list_bytes []) (accepts (paper_of d) k.good master_a) (accepts (paper_of d) k.good master_b) (list_length [] (omega arith))
-      ∙ ap₂ (λ (K : List Link) (l : List ℕ). outcome (Done (length K)) (lent a b l) []) (links_are (list_bytes [])) finishes
+      ∙ ap₂ (λ (K : List Link) (l : List ℕ). outcome (Ok (length K)) (lent a b l) []) (links_are (list_bytes [])) finishes
 
   -- With the finished list the call shows what its own tests leave of its turn on paper.
   pub on_turn : (q : Request) (n v : ℕ) (f : theory.Case) (xs : List (List ℕ)) → join f.a f.b ≡ f.links
@@ -82,7 +81,7 @@ module _ (d : theory.Case) (k : Known d) where
   on_turn q n v f xs i o p r j t = rw (← i, ← k.is_join) (by_nodes (paper_of d) k.good q o p r j ∙ ap shown t)
 
   pub on_nodes : (q : Request) (v : ℕ) (xs : List (List ℕ)) → OfBytes (shape q) → Plays (shape q).acts → lengths_right stated_lengths (shape q) ≡ true → (shape q).judges ≡ true
-      → refused_or (own_answer (shape q) (paper_of d)) (λ r. turn r (shape q).others (paper_of d)) (played (shape q).acts (shape q).others (paper_of d)) ≡ turn (Done v) xs (paper_of d)
+      → refused_or (own_answer (shape q) (paper_of d)) (λ r. turn r (shape q).others (paper_of d)) (played (shape q).acts (shape q).others (paper_of d)) ≡ turn (Ok v) xs (paper_of d)
       → Right (case d d.links q 0 v d.links xs)
   on_nodes q v xs = on_turn q 0 v d xs k.is_join
 
@@ -121,11 +120,11 @@ k7 = known e7 refl refl (omega arith) (omega arith) cases-join.1.1.1.1.1.1.1.0
 -- E2 and E6, Spare.
 e2-spare : Right (case e2 [] (spare 0 1) 0 1 [] [])
 unfolding own_answer lengths_right has
-e2-spare = on_nodes e2 k2 (spare 0 1) 1 [] tt tt refl refl (ap (λ (n : ℕ). turn (Done n) [] (paper_of e2)) cases_spare.0)
+e2-spare = on_nodes e2 k2 (spare 0 1) 1 [] tt tt refl refl (ap (λ (n : ℕ). turn (Ok n) [] (paper_of e2)) cases_spare.0)
 
 e6-spare : Right (case e6 e6.links (spare 1 2) 0 1 e6.links [])
 unfolding own_answer lengths_right has
-e6-spare = on_nodes e6 k6 (spare 1 2) 1 [] tt tt refl refl (ap (λ (n : ℕ). turn (Done n) [] (paper_of e6)) cases_spare.1)
+e6-spare = on_nodes e6 k6 (spare 1 2) 1 [] tt tt refl refl (ap (λ (n : ℕ). turn (Ok n) [] (paper_of e6)) cases_spare.1)
 
 -- E1, Step.
 e1-step : Right (case e1 [] step 0 0 [] [])
@@ -139,7 +138,7 @@ sevens (suc n) = (omega arith, sevens n)
 
 e3-bands : Right (case e3 e3.links (bands (replicate counts_size 7)) 0 0 e3.links (e3_counts ∷ []))
 unfolding own_answer lengths_right band_bytes nat_bytes
-e3-bands = on_nodes e3 k3 (bands (replicate counts_size 7)) 0 (e3_counts ∷ []) (sevens counts_size, tt) tt refl refl (ap (λ (K : List Link). turn (Done 0) (band_bytes K ∷ []) (paper_of e3)) k3.is_join)
+e3-bands = on_nodes e3 k3 (bands (replicate counts_size 7)) 0 (e3_counts ∷ []) (sevens counts_size, tt) tt refl refl (ap (λ (K : List Link). turn (Ok 0) (band_bytes K ∷ []) (paper_of e3)) k3.is_join)
 
 -- E4, a faulty row.
 module _ (d : theory.Case) (h : length d.a ≤ node_rows) (g : length d.b ≤ node_rows) where
@@ -153,7 +152,7 @@ module _ (d : theory.Case) (h : length d.a ≤ node_rows) (g : length d.b ≤ no
   unfolding Right
   fault_a k = on_faulty-a (shape pair) empty right k (tried (shape pair) (drawn empty) TableA refl refl)
 
-  pub fault_b : (k : ℕ) → first_fault (table_bytes d.a) ≡ none → First (faulty (table_bytes d.b)) node_rows k → Right (case d [] pair 3 k [] [])
+  pub fault_b : (k : ℕ) → first_fault (table_bytes d.a) ≡ None → First (faulty (table_bytes d.b)) node_rows k → Right (case d [] pair 3 k [] [])
   unfolding Right
   fault_b k = on_faulty-b (shape pair) empty right k (tried (shape pair) (drawn empty) TableB refl refl)
 
@@ -177,7 +176,7 @@ e8_step : Right (case e7 [] step 0 1 (take 1 e7.links) [])
 unfolding Right
 e8_step =
     step_next a₇ b₇ (accepts (paper_of e7) k7.good master_a) (accepts (paper_of e7) k7.good master_b) 0 (rw (links_are e7 k7 (finished a₇ b₇)) (omega arith))
-    ∙ ap (λ (K : List Link). outcome (Done 1) (lent a₇ b₇ (list_bytes (take 1 K))) []) (links_are e7 k7 (finished a₇ b₇))
+    ∙ ap (λ (K : List Link). outcome (Ok 1) (lent a₇ b₇ (list_bytes (take 1 K))) []) (links_are e7 k7 (finished a₇ b₇))
   where
     a₇ : List ℕ
     a₇ = table_bytes e7.a
@@ -198,11 +197,11 @@ unfolding Right
 e8_damaged q r t h = on_damaged (paper_of e7) k7.good (shape q) (list_bytes damaged_links) (list_length damaged_links (omega arith)) r t h (rw k7.is_join unlike) link_size (omega arith) not_zero
 
 -- E9: the drawing is redrawn as it was, and the joins before and after have three rows in common.
-e9_turn : played (shape (edit moving)).acts (moving ∷ []) (paper_of e7) ≡ turn (Done 3) (moving ∷ []) (paper_of e7)
+e9_turn : played (shape (edit moving)).acts (moving ∷ []) (paper_of e7) ≡ turn (Ok 3) (moving ∷ []) (paper_of e7)
 unfolding redrawn edit_nodes node_bytes nat_bytes
 e9_turn =
-    ap₂ (λ (K J : List Link). turn (Done (common K J)) (moving ∷ []) (paper_of e7)) cases-join.1.1.1.1.1.1.1.0 cases-join.1.1.1.1.1.1.1.1.0
-    ∙ ap (λ (n : ℕ). turn (Done n) (moving ∷ []) (paper_of e7)) case_kept
+    ap₂ (λ (K J : List Link). turn (Ok (common K J)) (moving ∷ []) (paper_of e7)) cases-join.1.1.1.1.1.1.1.0 cases-join.1.1.1.1.1.1.1.1.0
+    ∙ ap (λ (n : ℕ). turn (Ok n) (moving ∷ []) (paper_of e7)) case_kept
 
 e9_move : Right (case e7 e7.links (edit moving) 0 3 e7.links (moving ∷ []))
 unfolding own_answer lengths_right has number_of edit_fields node_bytes nat_bytes

@@ -1,10 +1,9 @@
 -- THE CLAIM of demand 3: whatever the history, the answers and the bytes are those of the paper drawing.
-use Rattle.std.specs.Prelude.{ℕ, ◌<◌, ◌≡◌, Bool, true, false, List, [], ◌∷◌}
+use Rattle.std.specs.Prelude.{ℕ, ◌<◌, ◌≡◌, Bool, true, false, List, [], ◌∷◌, Option, None, Some}
 use Rattle.std.proofs.Math.Path.{refl, ap}
 use Rattle.std.proofs.Common.{sym, ◌∙◌, subst, arith}
-use Rattle.std.proofs.Math.Option.{Option, none, some}
 use Rattle.matching.specs.Definitions.Lists.{All}
-use Rattle.matching.specs.Definitions.Nodes.{master_a, master_b}
+use Rattle.matching.specs.declared.Master.TheVariants.{A as master_a, B as master_b}
 use Rattle.matching.proofs.Theorems.Amounts.{join_within, join_unblocked, join_unique}
 use Rattle.tables.specs.Definitions.Sizes.{table_size, list_size}
 use Rattle.tables.specs.Definitions.Tables.{table_bytes, Accepted}
@@ -12,8 +11,7 @@ use Rattle.tables.specs.Definitions.Lists.{list_bytes, finished}
 use Rattle.tables.proofs.Laws.Tables.{table_length}
 use Rattle.tables.proofs.Laws.Accepted.{nodes_table, nodes_good}
 use Rattle.tables.specs.Laws.Lists.{list_length, list_links}
-use Rattle.contract.specs.declared.Answer.{Answer}
-use Rattle.contract.specs.Definitions.Answers.{value_end}
+use Rattle.contract.specs.Definitions.Answers.{Answer, value_end}
 use Rattle.contract.specs.Definitions.Buffers.{lent, paired, Lengths, lengths_of, stated_lengths, Drawing, Good, links, drawn, buffers}
 use Rattle.contract.specs.Definitions.Shapes.{OfBytes, Outcome, turn, Shape}
 use Rattle.contract.specs.Definitions.Requests.{Request, pair, step, edit, spare, bands, shape}
@@ -106,8 +104,8 @@ module _ (d : Drawing) (g : Good d) (c : Call) (o : OfBytes (shape c.request)) (
       code r e = unfold answers in rw e
 
       go : (r : Option Answer) → refusal (fed_lengths c) x (buffers d) ≡ r → (answers (fed_lengths c) x d).code < value_end → Ahead x.edits (buffers d).list (buffers (answers (fed_lengths c) x d).next).list
-      go none e k = answers_ahead x (lawful c.request) (faithful c.request) d g o (fed_lengths c) p e
-      go (some r) e k = absurd (omega (arith, refusal_high (fed_lengths c) x (lawful c.request) (buffers d) r e, code (some r) e))
+      go None e k = answers_ahead x (lawful c.request) (faithful c.request) d g o (fed_lengths c) p e
+      go (Some r) e k = absurd (omega (arith, refusal_high (fed_lengths c) x (lawful c.request) (buffers d) r e, code (Some r) e))
 
 run-paper : (cs : List Call) (d : Drawing) → History cs d → Good d → run cs (buffers d) ≡ paper cs d
 unfolding run paper
@@ -154,8 +152,8 @@ all_stand [] hs d = tt
 all_stand (c ∷ cs) hs d = (hs.0, (go (refusal (fed_lengths c) (shape c.request) (buffers d)), all_stand cs hs.1 (on_paper c d).next))
   where
     go : (r : Option Answer) → Stands r (shape c.request).acts
-    go none = plays c.request
-    go (some r) = tt
+    go None = plays c.request
+    go (Some r) = tt
 
 module _ (a b : List ℕ) (ha : Accepted a) (hb : Accepted b) where
   pub first_good : Good (drawn (paired a b))

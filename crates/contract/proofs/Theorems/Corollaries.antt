@@ -2,7 +2,7 @@
 use Rattle.std.specs.Prelude.{◌≡◌}
 use Rattle.std.proofs.Common.{sym, ◌∙◌, ap}
 use Rattle.matching.specs.Definitions.Lists.{Reordered}
-use Rattle.matching.specs.Definitions.Nodes.{master_a, master_b}
+use Rattle.matching.specs.declared.Master.TheVariants.{A as master_a, B as master_b}
 use Rattle.matching.proofs.Theorems.RowOrder.{join_reordered}
 use Rattle.tables.specs.Definitions.Lists.{list_bytes}
 use Rattle.contract.specs.Definitions.Buffers.{Buffers, paired, Good, drawn, buffers}

@@ -1,5 +1,5 @@
 -- Light and bold exchanged: on the calls themselves, for any accepted tables and whatever the lists held (document 02, P1).
-use Rattle.std.specs.Prelude.{ℕ, suc, ◌≡◌, refl, Bool, true, false, List, [], ◌∷◌, map, eqb, length}
+use Rattle.std.specs.Prelude.{ℕ, suc, ◌≡◌, refl, Bool, true, false, List, [], ◌∷◌, map, eqb, length, Ok}
 use Rattle.std.proofs.Common.{sym, ◌∙◌, ap}
 use Rattle.matching.specs.Definitions.Nodes.{Unique}
 use Rattle.matching.specs.Definitions.Links.{Link, exchange}
@@ -8,7 +8,6 @@ use Rattle.matching.proofs.Theorems.Exchange.{exchange_reordered, exchange_dista
 use Rattle.tables.specs.Definitions.Sizes.{list_size, counts_size}
 use Rattle.tables.specs.Definitions.Tables.{nodes_in, Accepted}
 use Rattle.tables.proofs.Laws.Accepted.{nodes_good}
-use Rattle.contract.specs.declared.Answer.TheVariants.{Done}
 use Rattle.contract.specs.Definitions.Answers.{code_of}
 use Rattle.contract.specs.Definitions.Buffers.{lent, paired, links_of}
 use Rattle.contract.specs.Definitions.Shapes.{Outcome, outcome}
@@ -26,10 +25,10 @@ module _ (a b l k : List ℕ) (ha : Accepted a) (hb : Accepted b) (size-l : leng
   ub = (nodes_good b hb).unique
 
   -- What Pair leaves, both ways.
-  one : pair_call a b l ≡ outcome (Done (length (links_of (lent a b l)))) (paired a b) []
+  one : pair_call a b l ≡ outcome (Ok (length (links_of (lent a b l)))) (paired a b) []
   one = pair_done a b l ha hb size-l
 
-  two : pair_call b a k ≡ outcome (Done (length (links_of (lent b a k)))) (paired b a) []
+  two : pair_call b a k ≡ outcome (Ok (length (links_of (lent b a k)))) (paired b a) []
   two = pair_done b a k hb ha size-k
 
   count : length (links_of (lent b a k)) ≡ length (links_of (lent a b l))
@@ -47,7 +46,7 @@ module _ (a b l k : List ℕ) (ha : Accepted a) (hb : Accepted b) (size-l : leng
 
   pub exchanged : Exchanged a b l k
   exchanged = record {
-    value = ap (λ (o : Outcome). o.code) two ∙ ap (λ (n : ℕ). code_of (Done n)) count ∙ sym (ap (λ (o : Outcome). o.code) one);
+    value = ap (λ (o : Outcome). o.code) two ∙ ap (λ (n : ℕ). code_of (Ok n)) count ∙ sym (ap (λ (o : Outcome). o.code) one);
     links = rw (links_one, links_two) (exchange_reordered (nodes_in a) (nodes_in b) ua ub);
     distances = rw (links_one, links_two) (exchange_distances (nodes_in a) (nodes_in b) ua ub);
     spare = λ m n. rw (one, two) (spare_exchanged a b ha hb m n);

@@ -1,14 +1,11 @@
 -- Each refusal number by its own condition: the laws that do not mention the table of places.
-use Rattle.std.specs.Prelude.{ℕ, ◌+◌, ◌*◌, ◌/◌, ◌%◌, ◌<◌, ◌≤◌, ◌≡◌, refl, [], ◌∷◌, map}
+use Rattle.std.specs.Prelude.{ℕ, ◌+◌, ◌*◌, ◌/◌, ◌%◌, ◌<◌, ◌≤◌, ◌≡◌, refl, [], ◌∷◌, map, Option, None, Some}
 use Rattle.std.proofs.Common.{◌∙◌, arith}
 use Rattle.std.proofs.Math.Path.{ap}
-use Rattle.std.proofs.Math.Option.{Option, none, some}
 use Rattle.tables.specs.Definitions.Sizes.{link_rows}
 use Rattle.tables.specs.Definitions.Fields.{Bytes}
-use Rattle.contract.specs.declared.Answer.{Answer}
-use Rattle.contract.specs.declared.Answer.TheVariants.{Refused}
+use Rattle.contract.specs.Definitions.Answers.{Answer, refused, refusal_number, order, value_end, code_of}
 use Rattle.contract.specs.declared.Refusal.{Refusal}
-use Rattle.contract.specs.Definitions.Answers.{refusal_number, order, value_end, code_of}
 use Rattle.contract.specs.Definitions.Buffers.{Buffers, Lengths, lengths_of}
 use Rattle.contract.specs.Definitions.Shapes.{Outcome, IsDone, Shape}
 use Rattle.contract.specs.Definitions.Requests.{Request, shape}
@@ -34,7 +31,7 @@ module _ (q : Request) (h : Buffers) where
   s = lengths_of h
 
   -- A refused call gives the number and value of the first condition that holds.
-  given : (a : Answer) → refusal s x h ≡ some a → NumberFits s x h ((call x h).code / value_end) ((call x h).code % value_end)
+  given : (a : Answer) → refusal s x h ≡ Some a → NumberFits s x h ((call x h).code / value_end) ((call x h).code % value_end)
   given a e =
       let f = refusal_fits s x (lawful q) h a e in
       let l = value_low (first_holds order f.first) in
@@ -47,12 +44,12 @@ module _ (q : Request) (h : Buffers) where
   pub number_when : (n v : ℕ) → NumberFits s x h n v → (call x h).code ≡ n * value_end + v
   unfolding refusal
   number_when n v f =
-      ap (λ (o : Outcome). o.code) (call_refused x h (Refused f.refusal v) (first_when (Holds s x h) (place s x h) (place_right s x h (lawful q).tests) f.refusal v order f.fits))
+      ap (λ (o : Outcome). o.code) (call_refused x h (refused f.refusal v) (first_when (Holds s x h) (place s x h) (place_right s x h (lawful q).tests) f.refusal v order f.fits))
       ∙ rw f.is_number
 
   module _ (ba : Bytes h.a) (bb : Bytes h.b) where
     -- A done call gives its value, which is low.
-    done_value : refusal s x h ≡ none → (call x h).code ≤ link_rows
+    done_value : refusal s x h ≡ None → (call x h).code ≤ link_rows
     done_value n = omega (arith, ap (λ (o : Outcome). o.code) (call-done x h n), (lawful q).value h ba bb (no_refusal s x h (lawful q).tests n))
 
     -- and only then.
@@ -60,8 +57,8 @@ module _ (q : Request) (h : Buffers) where
     number_only n v k l e = go (refusal s x h) refl
       where
         go : (o : Option Answer) → refusal s x h ≡ o → NumberFits s x h n v
-        go none i = absurd (omega (arith, done_value i))
-        go (some a) i =
+        go None i = absurd (omega (arith, done_value i))
+        go (Some a) i =
             let m : n ≡ (call x h).code / value_end = omega arith in
             let u : v ≡ (call x h).code % value_end = omega arith in
             rw (m, u) (given a i)
@@ -75,28 +72,28 @@ module _ (q : Request) (h : Buffers) where
     done_when k = go (refusal s x h) refl
       where
         go : (o : Option Answer) → refusal s x h ≡ o → call x h ≡ x.done h
-        go none i = call-done x h i
-        go (some a) i = let f = refusal_fits s x (lawful q) h a i in absurd (k f.refusal f.value (first_holds order f.first))
+        go None i = call-done x h i
+        go (Some a) i = let f = refusal_fits s x (lawful q) h a i in absurd (k f.refusal f.value (first_holds order f.first))
 
     -- A call that is not done leaves every lent byte as it was.
     pub refused_unchanged : value_end ≤ (call x h).code → call x h ≡ record { code = (call x h).code; held = h; others = x.others }
     refused_unchanged k = go (refusal s x h) refl
       where
         go : (o : Option Answer) → refusal s x h ≡ o → call x h ≡ record { code = (call x h).code; held = h; others = x.others }
-        go none i = absurd (omega (arith, done_value i))
-        go (some a) i = rw (call_refused x h a i)
+        go None i = absurd (omega (arith, done_value i))
+        go (Some a) i = rw (call_refused x h a i)
 
     -- Number and value are read off the code: at most 10, and at most the rows of the list.
     pub number_read : (call x h).code / value_end ≤ 10
     number_read = go (refusal s x h) refl
       where
         go : (o : Option Answer) → refusal s x h ≡ o → (call x h).code / value_end ≤ 10
-        go none i = omega (arith, done_value i)
-        go (some a) i = let g = given a i in omega (arith, g.is_number, number_high g.refusal)
+        go None i = omega (arith, done_value i)
+        go (Some a) i = let g = given a i in omega (arith, g.is_number, number_high g.refusal)
 
     pub value_read : (call x h).code % value_end ≤ link_rows
     value_read = go (refusal s x h) refl
       where
         go : (o : Option Answer) → refusal s x h ≡ o → (call x h).code % value_end ≤ link_rows
-        go none i = omega (arith, done_value i)
-        go (some a) i = value_low (first_holds order (given a i).fits)
+        go None i = omega (arith, done_value i)
+        go (Some a) i = value_low (first_holds order (given a i).fits)

@@ -1,5 +1,5 @@
 -- Pair: whatever the list was, it holds the join afterwards (demand 2).
-use Rattle.std.specs.Prelude.{ℕ, ◌≡◌, List, [], length}
+use Rattle.std.specs.Prelude.{ℕ, ◌≡◌, List, [], length, Ok}
 use Rattle.std.proofs.Common.{◌∙◌}
 use Rattle.std.proofs.Math.Path.{ap}
 use Rattle.tables.specs.Definitions.Sizes.{list_size}
@@ -7,7 +7,6 @@ use Rattle.tables.specs.Definitions.Tables.{nodes_in, Accepted}
 use Rattle.tables.specs.Definitions.Lists.{finished, links_in}
 use Rattle.tables.proofs.Laws.Accepted.{nodes_good}
 use Rattle.tables.specs.Laws.Lists.{list_links}
-use Rattle.contract.specs.declared.Answer.TheVariants.{Done}
 use Rattle.contract.specs.Definitions.Buffers.{lent, paired, links_of}
 use Rattle.contract.specs.Definitions.Shapes.{Outcome, outcome}
 use Rattle.contract.specs.Definitions.Requests.{pair_shape}
@@ -18,7 +17,7 @@ use Rattle.contract.proofs.Laws.Places.{pair_passes}
 
 module _ (a b l : List ℕ) (ha : Accepted a) (hb : Accepted b) (size : length l ≡ list_size) where
   -- Of accepted tables Pair writes the finished list, and gives the number of links.
-  pub pair_done : pair_call a b l ≡ outcome (Done (length (links_of (lent a b l)))) (paired a b) []
+  pub pair_done : pair_call a b l ≡ outcome (Ok (length (links_of (lent a b l)))) (paired a b) []
   pair_done = call-done pair_shape (lent a b l) (pair_passes a b l ha hb size)
 
   -- The links read back from it are the join's.

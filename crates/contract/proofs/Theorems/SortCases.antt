@@ -1,7 +1,6 @@
 -- Document 02's cases of sorts come out as it says.
-use Rattle.std.specs.Prelude.{ℕ, ◌≡◌, refl, true, List, [], ◌∷◌, map, pos}
+use Rattle.std.specs.Prelude.{ℕ, ◌≡◌, refl, true, List, [], ◌∷◌, map, pos, Ok, None, Some}
 use Rattle.std.proofs.Common.{ap₂, arith}
-use Rattle.std.proofs.Math.Option.{none, some}
 use Rattle.matching.specs.Definitions.Lists.{All}
 use Rattle.matching.specs.Definitions.Nodes.{has}
 use Rattle.matching.specs.Definitions.Edits.{amend}
@@ -14,7 +13,7 @@ use Rattle.tables.specs.Definitions.Fields.{nat_bytes}
 use Rattle.tables.specs.Definitions.Tables.{node_bytes, table_bytes, faulty, first_fault}
 use Rattle.tables.specs.Definitions.Edits.{number_of, edit_fields, edit_nodes}
 use Rattle.tables.proofs.Laws.Faultless.{table_accepted}
-use Rattle.contract.specs.declared.Answer.TheVariants.{Done, Refused}
+use Rattle.contract.specs.Definitions.Answers.{refused}
 use Rattle.contract.specs.declared.Refusal.TheVariants.{Field}
 use Rattle.contract.specs.Definitions.Buffers.{stated_lengths}
 use Rattle.contract.specs.Definitions.Shapes.{OfBytes, turn}
@@ -55,9 +54,9 @@ unfolding faulty table_bytes nat_bytes
 second = record { low = omega arith; here = refl; ahead = λ i l. (let e : i ≡ 0 = omega arith in rw e) }
 
 -- The edit of a sort: E5 is redrawn, and its join is known.
-turned : played (shape (edit turning)).acts (turning ∷ []) (paper_of e5) ≡ turn (Done 0) (turning ∷ []) (paper_of e5s)
+turned : played (shape (edit turning)).acts (turning ∷ []) (paper_of e5) ≡ turn (Ok 0) (turning ∷ []) (paper_of e5s)
 unfolding redrawn edit_nodes node_bytes nat_bytes amend common
-turned = ap₂ (λ (K J : List Link). turn (Done (common K J)) (turning ∷ []) (paper_of e5s)) cases-join.1.1.1.0 cases-join.1.1.1.1.1.0
+turned = ap₂ (λ (K J : List Link). turn (Ok (common K J)) (turning ∷ []) (paper_of e5s)) cases-join.1.1.1.0 cases-join.1.1.1.1.1.0
 
 e5_turned : Right (record {
   drawing = e5;
@@ -73,7 +72,7 @@ unfolding own_answer lengths_right has number_of edit_fields node_bytes nat_byte
 e5_turned = on_turn e5 k5 (edit turning) 0 0 e5s (turning ∷ []) cases-join.1.1.1.1.1.0 (omega arith, tt) tt refl refl turned
 
 -- A field that breaks the rules of its kind.
-wrong : (e : List ℕ) → OfBytes (shape (edit e)) → lengths_right stated_lengths (shape (edit e)) ≡ true → own_answer (shape (edit e)) (paper_of e5) ≡ some (Refused Field 0) → Right (refused_edit e)
+wrong : (e : List ℕ) → OfBytes (shape (edit e)) → lengths_right stated_lengths (shape (edit e)) ≡ true → own_answer (shape (edit e)) (paper_of e5) ≡ Some (refused Field 0) → Right (refused_edit e)
 wrong e o r a = on_turn e5 k5 (edit e) 8 0 e5 (e ∷ []) k5.is_join o tt r refl (rw a)
 
 wrong_edits_lem : All Right (map refused_edit wrong_edits)
@@ -91,5 +90,5 @@ sort_cases_right =
     also : {X Y : Type 0} → X → Y → X × Y
     also x y = (x, y)
 
-    none_faulty : first_fault (table_bytes []) ≡ none
+    none_faulty : first_fault (table_bytes []) ≡ None
     none_faulty = (table_accepted [] (are_good [] (unfold are_nodes in refl) (omega arith))).faultless

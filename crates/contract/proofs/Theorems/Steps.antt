@@ -1,9 +1,8 @@
 -- Step: from any leading part of the join to the finished list.
 use Prim.Native.Nat.{ℕ, zero, suc, ◌<◌, ◌≤◌}
-use Rattle.std.specs.Prelude.{◌≡◌, length, take, replicate}
+use Rattle.std.specs.Prelude.{◌≡◌, length, take, replicate, Ok, None, Some}
 use Rattle.std.proofs.Math.Path.{refl, ap}
 use Rattle.std.proofs.Common.{◌∙◌, arith}
-use Rattle.std.proofs.Math.Option.{none, some}
 use mathlib.Core.List.{List, []}
 use Rattle.std.proofs.Math.ListN.{length-take}
 use Rattle.std.proofs.Math.Seq.{take-length}
@@ -16,7 +15,6 @@ use Rattle.tables.specs.Definitions.Lists.{list_bytes, finished, first_differenc
 use Rattle.tables.proofs.Laws.Accepted.{nodes_good}
 use Rattle.tables.specs.Laws.Lists.{GoodLink, list_length}
 use Rattle.tables.specs.Laws.Compare.{same_difference}
-use Rattle.contract.specs.declared.Answer.TheVariants.{Done}
 use Rattle.contract.specs.Definitions.Buffers.{lent, paired, links_of, leading_part}
 use Rattle.contract.specs.Definitions.Shapes.{Outcome, outcome}
 use Rattle.contract.specs.Definitions.Requests.{stepped, step_shape}
@@ -41,19 +39,19 @@ module _ (a b : List ℕ) (ha : Accepted a) (hb : Accepted b) where
   good = join_good (nodes_in a) (nodes_in b) (nodes_good a ha) (nodes_good b hb)
 
   -- While a link is missing, Step writes the next row, and gives 1.
-  pub step_next : (k : ℕ) → k < length (links_of (paired a b)) → step_call a b (leading_part a b k) ≡ outcome (Done 1) (lent a b (leading_part a b (suc k))) []
+  pub step_next : (k : ℕ) → k < length (links_of (paired a b)) → step_call a b (leading_part a b k) ≡ outcome (Ok 1) (lent a b (leading_part a b (suc k))) []
   unfolding finished damaged_row
   step_next k h =
-      let d : first_difference (leading_part a b k) (finished a b) ≡ some k = leading_differs J good (links_room a b) k h in
+      let d : first_difference (leading_part a b k) (finished a b) ≡ Some k = leading_differs J good (links_room a b) k h in
       let z = leading_zero J good (links_room a b) k h in
       call-done step_shape (lent a b (leading_part a b k)) (step_passes a b (leading_part a b k) ha hb (list_length (take k J) (omega (arith, length-take k J, links_room a b))) (rw (d, z)))
       ∙ rw (d, leading_next J good (links_room a b) k h)
 
   -- Then it writes nothing, and gives 0.
-  pub step_end : step_call a b (finished a b) ≡ outcome (Done 0) (paired a b) []
+  pub step_end : step_call a b (finished a b) ≡ outcome (Ok 0) (paired a b) []
   unfolding damaged_row
   step_end =
-      let d : first_difference (finished a b) (finished a b) ≡ none = same_difference (finished a b) in
+      let d : first_difference (finished a b) (finished a b) ≡ None = same_difference (finished a b) in
       call-done step_shape (paired a b) (step_passes a b (finished a b) ha hb (finished-length a b) (rw d)) ∙ ap (stepped (paired a b)) d
 
   -- From the zero list n steps write the first n links,
@@ -67,7 +65,7 @@ module _ (a b : List ℕ) (ha : Accepted a) (hb : Accepted b) where
   steps_one n h = rw (steps_lead n (omega arith)) (ap (λ (o : Outcome). o.code) (step_next n h))
 
   -- and the one after them finds the finished list.
-  pub steps_zero : step_call a b (step_times (length (links_of (paired a b))) a b (list_bytes [])) ≡ outcome (Done 0) (paired a b) []
+  pub steps_zero : step_call a b (step_times (length (links_of (paired a b))) a b (list_bytes [])) ≡ outcome (Ok 0) (paired a b) []
   steps_zero = ap (step_call a b) all ∙ step_end
     where
       all : step_times (length J) a b (list_bytes []) ≡ finished a b

@@ -2,12 +2,13 @@
 use Rattle.std.specs.Prelude.{ℕ, zero, suc, ◌+◌, ◌-◌, ◌≤◌, ◌<◌, ◌≡◌, refl, List, ◌++◌, ℤ, length}
 use Rattle.std.proofs.Common.{sym, subst, arith}
 use Rattle.matching.specs.declared.Range.{Range}
-use Rattle.matching.specs.declared.Sorts.{Sorts}
+use Rattle.matching.specs.Definitions.Rows.{Sorts, range, size, spans_of, Spanned, node_in, nodes_on}
 use Rattle.matching.specs.Definitions.Lists.{All, Reordered, then}
-use Rattle.matching.specs.Definitions.Nodes.{Master, master_a, master_b, each, Node, of_sort}
+use Rattle.matching.specs.declared.Master.{Master}
+use Rattle.matching.specs.declared.Master.TheVariants.{A as master_a, B as master_b}
+use Rattle.matching.specs.Definitions.Nodes.{each, Node, of_sort}
 use Rattle.matching.specs.Definitions.Columns.{tabulate}
 use Rattle.matching.specs.Definitions.Sizes.{node_rows, half, set_rows}
-use Rattle.matching.specs.Definitions.Rows.{range, size, spans_of, Spanned, node_in, nodes_on}
 use Rattle.matching.proofs.Laws.Columns.{tabulate_all, tabulate_cong}
 use Rattle.matching.proofs.Laws.Sets.{tabulate_unique}
 use Rattle.matching.proofs.Laws.Both.{unique_append}
@@ -15,8 +16,7 @@ use Rattle.matching.proofs.Laws.Reordered.{reordered_back}
 use Rattle.matching.proofs.Theorems.RowOrder.{reordered_unique}
 use Rattle.tables.specs.Definitions.Tables.{nodes_in}
 use Rattle.tables.proofs.Laws.Accepted.{room as few}
-use Rattle.load.specs.declared.table.Rows.{Rows}
-use Rattle.load.specs.Load.{Columns, Decoded, rows_of, Whole, Loaded, NextBlock}
+use Rattle.load.specs.Load.{Rows, Columns, Decoded, rows_of, Whole, Loaded, NextBlock}
 use Rattle.load.specs.Index.{Named, on_curve, off_curve}
 use Rattle.load.specs.Laws.Parts.{reordered_append, parts, parts_length, part_length}
 use Rattle.load.specs.Laws.Decode.{same_node, same_then}

@@ -7,7 +7,7 @@ use Rattle.std.proofs.Math.ListN.{get_or}
 use borrow.Author.Tests.{eq-eqb, ne_eqb, lt-ltb, le-ltb, le-leb, lt-leb}
 use Rattle.matching.specs.declared.Range.{Range}
 use Rattle.matching.specs.Definitions.Sizes.{node_rows}
-use Rattle.load.specs.declared.table.Rows.{Rows}
+use Rattle.load.specs.Load.{Rows}
 use Rattle.load.specs.Index.{slot_of, walk, look_up, Found, FoundAll, Among, on_curve, off_curve, Distinct}
 
 -- The walk from the entry i on, f entries at most, is the whole look-up.
@@ -49,19 +49,11 @@ module _ {r : Range} {ns heads next : List ℕ} {n : ℕ} where
           same = sym (w.rest ∙ rw (more, lt-leb i r.from l, le-ltb r.to i g, eq-eqb (get_or ns (i - 1) 0) n d));
         }
 
-        pub walking_on : {k : ℕ} → i ≤ r.to → (get_or ns (i - 1) 0 ≡ n → ⊥) → k ≡ get_or next (i - 1) 0 → Walking r ns heads next n (f - 1) k
+        pub walking_on : {g k : ℕ} → f ≡ suc g → i ≤ r.to → (get_or ns (i - 1) 0 ≡ n → ⊥) → k ≡ get_or next (i - 1) 0 → Walking r ns heads next n g k
         unfolding walk
-        walking_on g d e = record {
+        walking_on {g} q h d e = record {
           rest = w.rest
-              ∙ ap (λ (m : ℕ). walk r ns next n m i) more
-              ∙ rw (lt-leb i r.from l, le-ltb r.to i g, ne_eqb (get_or ns (i - 1) 0) n d)
-              (ap (walk r ns next n (f - 1)) (sym e));
+              ∙ ap (λ (m : ℕ). walk r ns next n m i) q
+              ∙ rw (lt-leb i r.from l, le-ltb r.to i h, ne_eqb (get_or ns (i - 1) 0) n d)
+              (ap (walk r ns next n g) (sym e));
         }
-
--- Where each row is found by its number, no number stands twice.
-pub found_distinct : (r : Rows) (w : Range) (ns heads next : List ℕ) → FoundAll r.on w ns heads next → FoundAll r.off w ns heads next → Distinct r ns
-found_distinct r w ns heads next p q i k a b e = sym (here a) ∙ ap (look_up w ns heads next) e ∙ here b
-  where
-    here : {i : ℕ} → Among r i → look_up w ns heads next (get_or ns i 0) ≡ i
-    here (on_curve l h) = p _ l h
-    here (off_curve l h) = q _ l h

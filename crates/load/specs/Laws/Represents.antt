@@ -4,12 +4,13 @@ use Rattle.std.specs.Prelude.{◌≡◌, List, ◌++◌, ℤ, length, get_or}
 use Rattle.std.proofs.Common.{sym, ◌∙◌, arith}
 use Rattle.std.proofs.Math.Path.{ap}
 use Rattle.matching.specs.declared.Spans.{Spans}
-use Rattle.matching.specs.declared.Sorts.{Sorts}
+use Rattle.matching.specs.Definitions.Rows.{Sorts, range, size, spans_of, On, node_in, nodes_on, nodes_of, Fit, Represents}
 use Rattle.matching.specs.Definitions.Lists.{All, Reordered}
-use Rattle.matching.specs.Definitions.Nodes.{Master, master_a, master_b, each, Node, Unique, of_sort}
+use Rattle.matching.specs.declared.Master.{Master}
+use Rattle.matching.specs.declared.Master.TheVariants.{A as master_a, B as master_b}
+use Rattle.matching.specs.Definitions.Nodes.{each, Node, Unique, of_sort}
 use Rattle.matching.specs.Definitions.Columns.{tabulate}
 use Rattle.matching.specs.Definitions.Sizes.{set_rows}
-use Rattle.matching.specs.Definitions.Rows.{range, size, spans_of, On, node_in, nodes_on, nodes_of, Fit, Represents}
 use Rattle.matching.proofs.Laws.Lists.{all_map, all_at}
 use Rattle.matching.proofs.Laws.Columns.{tabulate_get, same_place}
 use Rattle.matching.proofs.Laws.Sorts.{all_of_sort}

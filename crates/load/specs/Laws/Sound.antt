@@ -1,8 +1,7 @@
 -- The quick verdict on a table: what its tests show is that no row is faulty.
-use Rattle.std.specs.Prelude.{ℕ, suc, ◌*◌, ◌<◌, ◌≤◌, ◌≡◌, true, false, not, List, [], ◌∷◌, length, get_or}
-use Rattle.std.proofs.Common.{sym, ◌∙◌, zero-add, arith}
+use Rattle.std.specs.Prelude.{None, ℕ, suc, ◌*◌, ◌<◌, ◌≤◌, ◌≡◌, true, false, List, [], ◌∷◌, length, get_or}
+use Rattle.std.proofs.Common.{sym, ◌∙◌, zero-add, eq-eqb, ne_eqb, arith}
 use Rattle.std.proofs.Math.Path.{ap}
-use Rattle.std.proofs.Math.Option.{none}
 use Rattle.std.proofs.Math.Decide.{dec_lt}
 use Rattle.matching.specs.Definitions.Lists.{All}
 use Rattle.matching.specs.Definitions.Nodes.{Node, Unique}
@@ -13,7 +12,6 @@ use Rattle.tables.specs.Laws.Rows.{from_none}
 use Rattle.tables.specs.Laws.Nodes.{RowAt, rows_at}
 use Rattle.tables.proofs.Laws.Accepted.{room, fields_range}
 use Rattle.tables.proofs.Laws.Faultless.{not_stands}
-use Rattle.tables.proofs.Laws.Faults.{faulty_zero, faulty_gap}
 use Rattle.load.specs.Fault.{ZeroRow}
 
 -- A table ends where its rows are zero from there on.
@@ -62,13 +60,14 @@ module _ (t : List ℕ)
       omega (arith, same_place (nodes_in t) i k other unique (omega arith) h (number i (omega arith) ∙ e ∙ sym (number k h)))
 
   clean : (k : ℕ) → k < node_rows → faulty t k ≡ false
+  unfolding faulty
   clean k h = go (dec_lt k (length (nodes_in t)))
     where
       go : Dec (k < length (nodes_in t)) → faulty t k ≡ false
-      go (yes l) = sym (faulty_gap t k (numbered k l) (good k l) (not_stands t (row_number t k) k (ahead k l)))
-          ∙ not_stands t 0 k (λ i g e. numbered i (omega arith) e)
-      go (no l) = let z = zeros k (omega arith) h in sym (faulty_zero t k z.number) ∙ ap not z.fields
+      go (yes l) = rw (ne_eqb (row_number t k) 0 (numbered k l), good k l, not_stands t (row_number t k) k (ahead k l))
+          (not_stands t 0 k (λ i g e. numbered i (omega arith) e))
+      go (no l) = let z = zeros k (omega arith) h in rw (eq-eqb (row_number t k) 0 z.number, z.fields)
 
-  pub faultless : first_fault t ≡ none
+  pub faultless : first_fault t ≡ None
   unfolding first_fault
   faultless = from_none (faulty t) node_rows 0 (λ k h g. clean k (omega arith))

@@ -9,7 +9,9 @@ use mathlib.Core.List.{List, [], ◌∷◌, Memᴰ}
 use Rattle.std.proofs.Math.Decide.{ℕ_discrete}
 use native.Mathlib.Omega.{arith}
 use Rattle.matching.specs.Definitions.Lists.{All, sum_over}
-use Rattle.matching.specs.Definitions.Nodes.{Master, master_a, master_b, each, other, Node, Unique}
+use Rattle.matching.specs.declared.Master.{Master}
+use Rattle.matching.specs.declared.Master.TheVariants.{A as master_a, B as master_b}
+use Rattle.matching.specs.Definitions.Nodes.{each, other, Node, Unique}
 use Rattle.matching.specs.Definitions.Pairs.{Pair, number_in, pair}
 use Rattle.matching.specs.Definitions.Links.{Link, pair_of, amount_of, used, Increasing}
 use Rattle.matching.proofs.Laws.Lists.{all_map, all_map₂, all_in, all_at, all_true}

@@ -5,10 +5,10 @@ use Rattle.std.proofs.Common.{◌∙◌, arith}
 use Rattle.std.proofs.Math.Path.{ap₂}
 use mathlib.Core.List.{List, [], ◌∷◌, ◌++◌, Memᴰ, append-nil}
 use Rattle.std.proofs.Math.ListN.{length-append}
-use Rattle.matching.specs.declared.Sorts.{Sorts}
+use Rattle.matching.specs.Definitions.Rows.{Sorts, range, size, spans_of, On, node_in, nodes_on, nodes_of, Fits}
 use Rattle.matching.specs.Definitions.Lists.{All}
-use Rattle.matching.specs.Definitions.Nodes.{Master, Node, Unique, of_sort}
-use Rattle.matching.specs.Definitions.Rows.{range, size, spans_of, On, node_in, nodes_on, nodes_of, Fits}
+use Rattle.matching.specs.declared.Master.{Master}
+use Rattle.matching.specs.Definitions.Nodes.{Node, Unique, of_sort}
 use Rattle.matching.proofs.Laws.Lists.{all_at, all_in, all_append, all_append_left, all_append_right}
 use Rattle.matching.proofs.Laws.Sorts.{same_sort, none_sort, sort_append}
 use Rattle.matching.proofs.Laws.Sets.{on_length, on_all, on_in, on_unique}

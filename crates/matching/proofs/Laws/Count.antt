@@ -10,7 +10,9 @@ use native.Mathlib.Omega.{arith}
 use Rattle.std.proofs.Math.ListN.{length}
 use Rattle.std.proofs.lemmas.List.{length-map}
 use Rattle.matching.specs.Definitions.Lists.{All}
-use Rattle.matching.specs.Definitions.Nodes.{Master, master_a, master_b, each, Node, numbers}
+use Rattle.matching.specs.declared.Master.{Master}
+use Rattle.matching.specs.declared.Master.TheVariants.{A as master_a, B as master_b}
+use Rattle.matching.specs.Definitions.Nodes.{each, Node, numbers}
 use Rattle.matching.specs.Definitions.Pairs.{Pair, number_in, pair, pairs}
 use Rattle.matching.specs.Definitions.Join.{Left, less, lesser, taken}
 use Rattle.matching.proofs.Laws.Lists.{all_in}

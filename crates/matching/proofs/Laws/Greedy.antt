@@ -8,7 +8,7 @@ use mathlib.Core.List.{List, [], ◌∷◌}
 use Rattle.std.proofs.Math.Decide.{ℕ_discrete, dec_lt}
 use native.Mathlib.Omega.{arith}
 use Rattle.matching.specs.Definitions.Lists.{All, sum_over}
-use Rattle.matching.specs.Definitions.Nodes.{Master}
+use Rattle.matching.specs.declared.Master.{Master}
 use Rattle.matching.specs.Definitions.Pairs.{Pair, number_in, earlier, Before}
 use Rattle.matching.specs.Definitions.Links.{Link}
 use Rattle.matching.specs.Definitions.Join.{Left, lesser, taken}

@@ -6,7 +6,8 @@ use Rattle.std.proofs.Math.Bool.{true, false, false≢true}
 use mathlib.Core.List.{List, [], ◌∷◌, Memᴰ}
 use native.Mathlib.Omega.{arith}
 use Rattle.matching.specs.Definitions.Lists.{All, sum_over}
-use Rattle.matching.specs.Definitions.Nodes.{Master, Node, has}
+use Rattle.matching.specs.declared.Master.{Master}
+use Rattle.matching.specs.Definitions.Nodes.{Node, has}
 use Rattle.matching.specs.Definitions.Pairs.{Before}
 use Rattle.matching.specs.Definitions.Links.{Link, pair_of, amount_of, used, Increasing, links_for}
 use Rattle.matching.proofs.Laws.Lists.{all_map}

@@ -6,7 +6,8 @@ use Rattle.std.proofs.Math.Decide.{ℕ_discrete}
 use Rattle.std.specs.Int.{w16}
 use Rattle.matching.specs.declared.Spans.{Spans}
 use Rattle.matching.specs.Definitions.Lists.{All}
-use Rattle.matching.specs.Definitions.Nodes.{Master, Node, Unique}
+use Rattle.matching.specs.declared.Master.{Master}
+use Rattle.matching.specs.Definitions.Nodes.{Node, Unique}
 use Rattle.matching.specs.Definitions.Links.{Link}
 use Rattle.matching.specs.Definitions.Columns.{tabulate, edge, Inside}
 use Rattle.matching.specs.Definitions.Rows.{range, size, On, x_at, y_at, gap, node_in, nodes_on, link_of, link_in, links_in, Fit}

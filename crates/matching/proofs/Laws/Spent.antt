@@ -5,7 +5,9 @@ use Rattle.std.proofs.Math.Option.{none}
 use mathlib.Core.List.{List, [], ◌∷◌, map}
 use Rattle.std.proofs.Math.Decide.{ℕ_discrete}
 use Rattle.matching.specs.Definitions.Lists.{All}
-use Rattle.matching.specs.Definitions.Nodes.{Master, master_a, master_b, Node, Absent, Unique, of_sort}
+use Rattle.matching.specs.declared.Master.{Master}
+use Rattle.matching.specs.declared.Master.TheVariants.{A as master_a, B as master_b}
+use Rattle.matching.specs.Definitions.Nodes.{Node, Absent, Unique, of_sort}
 use Rattle.matching.specs.Definitions.Pairs.{Pair, pair, pairs}
 use Rattle.matching.specs.Definitions.Join.{Left, lesser, taken, consider, earliest, whole}
 use Rattle.matching.proofs.Laws.Lists.{all_map, all_true, all_of_map}

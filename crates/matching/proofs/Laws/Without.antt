@@ -3,7 +3,9 @@ use Rattle.std.specs.Prelude.{ℕ, ◌+◌, ◌≤◌, ◌≡◌, refl, Bool, tr
 use Rattle.std.proofs.Common.{sym, ◌∙◌, ap, arith, length-append, ne_eqb}
 use Rattle.std.proofs.Math.Path.{fun_ext}
 use Rattle.std.proofs.Math.Decide.{ℕ_discrete}
-use Rattle.matching.specs.Definitions.Nodes.{Master, master_a, master_b, each, Node, Absent, of_sort, capacity_of}
+use Rattle.matching.specs.declared.Master.{Master}
+use Rattle.matching.specs.declared.Master.TheVariants.{A as master_a, B as master_b}
+use Rattle.matching.specs.Definitions.Nodes.{each, Node, Absent, of_sort, capacity_of}
 use Rattle.matching.specs.Definitions.Pairs.{Pair, number_in, pair, pairs}
 use Rattle.matching.specs.Definitions.Links.{Link}
 use Rattle.matching.specs.Definitions.Join.{Left, capacities, less, lesser, taken, consider, earliest, steps, whole, join}

@@ -6,7 +6,8 @@ use Rattle.std.proofs.Math.Bool.{true, false}
 use mathlib.Core.List.{List, Memᴰ}
 use Rattle.std.proofs.Math.Decide.{ℕ_discrete}
 use Rattle.matching.specs.Definitions.Lists.{All, sum_over}
-use Rattle.matching.specs.Definitions.Nodes.{master_a, master_b, Node, Unique}
+use Rattle.matching.specs.declared.Master.TheVariants.{A as master_a, B as master_b}
+use Rattle.matching.specs.Definitions.Nodes.{Node, Unique}
 use Rattle.matching.specs.Definitions.Pairs.{Pair, pair, pairs, earlier}
 use Rattle.matching.specs.Definitions.Links.{amount_of}
 use Rattle.matching.specs.Definitions.Join.{capacities, join}

@@ -6,7 +6,9 @@ use Rattle.std.proofs.Math.Bool.{true, false, cond}
 use mathlib.Core.List.Memᴰ
 use mathlib.Core.List.{List, [], ◌∷◌, Memᴰ}
 use Rattle.matching.specs.Definitions.Lists.{All}
-use Rattle.matching.specs.Definitions.Nodes.{Master, master_a, master_b, each, Node, Unique}
+use Rattle.matching.specs.declared.Master.{Master}
+use Rattle.matching.specs.declared.Master.TheVariants.{A as master_a, B as master_b}
+use Rattle.matching.specs.Definitions.Nodes.{each, Node, Unique}
 use Rattle.matching.specs.Definitions.Pairs.{Pair, number_in, pair, earlier, Before}
 use Rattle.matching.specs.Definitions.Links.{Link, pair_of, amount_of, used, Increasing}
 use Rattle.matching.specs.Definitions.Join.{join}

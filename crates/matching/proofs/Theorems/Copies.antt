@@ -5,7 +5,8 @@ use Rattle.std.proofs.Math.Option.{Option, none, some}
 use Rattle.std.proofs.Math.Decide.{ℕ_discrete}
 use Rattle.std.proofs.lemmas.List.{length-replicate}
 use Rattle.matching.specs.Definitions.Lists.{All, sum_over}
-use Rattle.matching.specs.Definitions.Nodes.{master_a, master_b, Node, Unique, of_sort, capacity_of}
+use Rattle.matching.specs.declared.Master.TheVariants.{A as master_a, B as master_b}
+use Rattle.matching.specs.Definitions.Nodes.{Node, Unique, of_sort, capacity_of}
 use Rattle.matching.specs.Definitions.Pairs.{Pair, pair, pairs}
 use Rattle.matching.specs.Definitions.Links.{Link, link}
 use Rattle.matching.specs.Definitions.Join.{Left, capacities, less, lesser, taken, consider, earliest, follow, steps, join}

@@ -5,7 +5,9 @@ use Rattle.std.proofs.Math.Bool.{and-false, or-false}
 use mathlib.Core.List.Memᴰ
 use mathlib.Core.List.{List, [], ◌∷◌, map, Memᴰ}
 use Rattle.matching.specs.Definitions.Lists.{All, Reordered}
-use Rattle.matching.specs.Definitions.Nodes.{Master, master_a, master_b, each, other, Node, Unique, capacity_of}
+use Rattle.matching.specs.declared.Master.{Master}
+use Rattle.matching.specs.declared.Master.TheVariants.{A as master_a, B as master_b}
+use Rattle.matching.specs.Definitions.Nodes.{each, other, Node, Unique, capacity_of}
 use Rattle.matching.specs.Definitions.Pairs.{Pair, distance, pair, earlier, Before, nearer, lower_a, lower_b}
 use Rattle.matching.specs.Definitions.Links.{Link, pair_of, exchange, amount_of, Increasing}
 use Rattle.matching.specs.Definitions.Join.{capacities, join, spare}

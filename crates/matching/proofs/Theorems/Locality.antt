@@ -5,7 +5,8 @@ use Rattle.std.proofs.Common.{◌∙◌, ap, subst}
 use mathlib.Core.List.{List, [], ◌∷◌, ◌++◌, append-nil}
 use Rattle.std.proofs.Math.Decide.{ℕ_discrete}
 use Rattle.matching.specs.Definitions.Lists.{All}
-use Rattle.matching.specs.Definitions.Nodes.{Master, Node, Absent, Unique, has}
+use Rattle.matching.specs.declared.Master.{Master}
+use Rattle.matching.specs.Definitions.Nodes.{Node, Absent, Unique, has}
 use Rattle.matching.specs.Definitions.Pairs.{Pair, number_in}
 use Rattle.matching.specs.Definitions.Links.{Link, pair_of, common}
 use Rattle.matching.specs.Definitions.Join.{Left, lesser, taken}

@@ -4,7 +4,9 @@ use Rattle.std.proofs.Common.{sym, ◌∙◌, ap, arith}
 use mathlib.Core.List.{List, [], ◌∷◌, ◌++◌, Memᴰ}
 use Rattle.std.proofs.Math.Decide.{ℕ_discrete, dec_le}
 use Rattle.matching.specs.Definitions.Lists.{All}
-use Rattle.matching.specs.Definitions.Nodes.{Master, master_a, master_b, Node}
+use Rattle.matching.specs.declared.Master.{Master}
+use Rattle.matching.specs.declared.Master.TheVariants.{A as master_a, B as master_b}
+use Rattle.matching.specs.Definitions.Nodes.{Node}
 use Rattle.matching.specs.Definitions.Pairs.{Pair, number_in, pairs, earlier, Before}
 use Rattle.matching.specs.Definitions.Links.{Link, link, pair_of, Increasing}
 use Rattle.matching.specs.Definitions.Join.{Left, capacities, lesser, taken, join}

@@ -3,7 +3,9 @@ use Rattle.std.specs.Prelude.{ℕ, zero, suc, ◌+◌, ◌≤◌, ◌≡◌, ref
 use Rattle.std.proofs.Common.{sym, ◌∙◌, ap, arith, eq-eqb}
 use mathlib.Core.List.{List, [], ◌∷◌, Memᴰ}
 use Rattle.matching.specs.Definitions.Lists.{All, sum_over}
-use Rattle.matching.specs.Definitions.Nodes.{Master, master_a, each, Node, numbers, Unique, capacity_of}
+use Rattle.matching.specs.declared.Master.{Master}
+use Rattle.matching.specs.declared.Master.TheVariants.{A as master_a}
+use Rattle.matching.specs.Definitions.Nodes.{each, Node, numbers, Unique, capacity_of}
 use Rattle.matching.specs.Definitions.Pairs.{Pair, pairs}
 use Rattle.matching.specs.Definitions.Links.{Link, link, pair_of}
 use Rattle.matching.specs.Definitions.Join.{Left, capacities, less, lesser, taken, earliest, follow, steps, join}

@@ -5,14 +5,15 @@ use Rattle.std.proofs.Common.{◌∙◌, arith, eq-eqb, ne_eqb}
 use mathlib.Core.List.{List, [], ◌∷◌, ◌++◌, map, Memᴰ}
 use Rattle.std.proofs.Math.Decide.{ℕ_discrete}
 use Rattle.std.proofs.Math.ListN.{length-map}
-use Rattle.matching.specs.declared.Sorts.{Sorts}
+use Rattle.matching.specs.Definitions.Rows.{Sorts, range, size, node_in, nodes_on, nodes_of, Fits}
 use Rattle.matching.specs.Definitions.Lists.{All, sum_over}
-use Rattle.matching.specs.Definitions.Nodes.{Master, master_a, master_b, each, Node, Unique, has, of_sort, capacity_of}
+use Rattle.matching.specs.declared.Master.{Master}
+use Rattle.matching.specs.declared.Master.TheVariants.{A as master_a, B as master_b}
+use Rattle.matching.specs.Definitions.Nodes.{each, Node, Unique, has, of_sort, capacity_of}
 use Rattle.matching.specs.Definitions.Pairs.{Pair, pair, pairs, earlier}
 use Rattle.matching.specs.Definitions.Links.{Link, pair_of, amount_of, used, links_for}
 use Rattle.matching.specs.Definitions.Join.{capacities, steps, whole, join}
 use Rattle.matching.specs.Definitions.Stability.{Blocked, Unblocked}
-use Rattle.matching.specs.Definitions.Rows.{range, size, node_in, nodes_on, nodes_of, Fits}
 use Rattle.matching.proofs.Laws.Lists.{all_map, all_in, all_at, all_true}
 use Rattle.matching.proofs.Laws.Sorts.{all_of_sort, in_sort, of_sort_lem, unique_of_sort, sum_of_sort, only_sort, same_sort}
 use Rattle.matching.proofs.Laws.Sums.{sum_cong}

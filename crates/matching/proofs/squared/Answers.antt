@@ -19,12 +19,12 @@ module _ {p q d : ℤ} (f : SFits w16 p) (g : SFits w16 q) (s : SFits w16 d) (h 
 
 pub overflow_cast-result : goal.overflow_cast-result
 overflow_cast-result c =
-    let s : SFits w16 c.difference-d.result = record { sfits = c.difference-d.type_inv } in
-    rw (to_z-of_z (product c.ranges.p c.ranges.q s c.requires c.difference-d.ensures), read_back s, times_self)
-    (tt, record { fits = omega (arith, small c.ranges.p c.ranges.q s c.requires c.difference-d.ensures) })
+    let s : SFits w16 c.difference.result = record { sfits = c.difference.type_inv } in
+    rw (c.from-d.ensures, to_z-of_z (product c.ranges.p c.ranges.q s c.requires c.difference.ensures), read_back s, times_self)
+    (tt, record { fits = omega (arith, small c.ranges.p c.ranges.q s c.requires c.difference.ensures) })
 
 pub returns : goal.returns
 returns c =
-    let s : SFits w16 c.difference-d.result = record { sfits = c.difference-d.type_inv } in
-    rw (to_z-of_z (product c.ranges.p c.ranges.q s c.requires c.difference-d.ensures), read_back s, times_self)
-    (is_square c.ranges.p c.ranges.q s c.requires c.difference-d.ensures)
+    let s : SFits w16 c.difference.result = record { sfits = c.difference.type_inv } in
+    rw (c.from-d.ensures, to_z-of_z (product c.ranges.p c.ranges.q s c.requires c.difference.ensures), read_back s, times_self)
+    (is_square c.ranges.p c.ranges.q s c.requires c.difference.ensures)

@@ -1,7 +1,8 @@
 -- Links: pairs with an amount, and what a list of them says.
 use Rattle.std.specs.Prelude.{ℕ, suc, Bool, cond, ◌&&◌, List, [], ◌∷◌, eqb}
 use Rattle.matching.specs.Definitions.Lists.{All, sum_over}
-use Rattle.matching.specs.Definitions.Nodes.{Master, Node, has}
+use Rattle.matching.specs.declared.Master.{Master}
+use Rattle.matching.specs.Definitions.Nodes.{Node, has}
 use Rattle.matching.specs.Definitions.Pairs.{Pair, number_in, Before}
 
 pub record Link : Type 0 where

@@ -1,13 +1,10 @@
 -- Masters and their nodes (document 01, 'Rows and buffers', without the bytes).
 use Rattle.std.specs.Prelude.{ℕ, suc, ◌≡◌, Bool, false, cond, ◌||◌, List, [], ◌∷◌, map, ℤ, eqb}
 use Rattle.matching.specs.Definitions.Lists.{All}
+use Rattle.matching.specs.declared.Master.{Master}
+use Rattle.matching.specs.declared.Master.TheVariants.{A as master_a, B as master_b}
 
--- The two masters: A is the light, B the bold.
-pub data Master : Type 0 where
-  master_a : Master
-  master_b : Master
-
--- A thing for each master.
+-- A thing for each master: A is the light, B the bold.
 abbrev pub each : {X : Type 0} → X → X → Master → X
 each x y master_a = x
 each x y master_b = y

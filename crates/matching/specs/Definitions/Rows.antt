@@ -2,14 +2,19 @@
 use Rattle.std.specs.Prelude.{ℕ, zero, suc, ◌+◌, ◌-◌, ◌*◌, ◌/◌, ◌<◌, ◌≤◌, ◌≡◌, List, [], ◌++◌, length, get_or, ℤ, pos}
 use Rattle.matching.specs.declared.Range.{Range}
 use Rattle.matching.specs.declared.Spans.{Spans}
-use Rattle.matching.specs.declared.Sorts.{Sorts}
+use Rattle.matching.specs.declared.BySort.{BySort}
 use Rattle.matching.specs.Definitions.Lists.{Reordered}
-use Rattle.matching.specs.Definitions.Nodes.{Master, each, Node}
+use Rattle.matching.specs.declared.Master.{Master}
+use Rattle.matching.specs.Definitions.Nodes.{each, Node}
 use Rattle.matching.specs.Definitions.Pairs.{squared_distance}
 use Rattle.matching.specs.Definitions.Links.{Link}
 use Rattle.matching.specs.Definitions.Join.{join}
 use Rattle.matching.specs.Definitions.Columns.{tabulate, Inside}
 use Rattle.matching.specs.Definitions.Sizes.{node_rows, link_rows, half, set_rows, block_rows, number_range}
+
+-- The rows of each sort, of both masters.
+abbrev pub Sorts : Type 0
+Sorts = BySort Spans
 
 -- A master's rows.
 abbrev pub range : Spans → Master → Range

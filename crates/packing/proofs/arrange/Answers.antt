@@ -2,5 +2,5 @@
 use Rattle.packing.proofs.Laws.Packed.{packed_none}
 use Rattle.packing.proofs.arrange.Goals as goal
 
-pub returns-then-r-le-FEW : goal.returns-then-r-le-FEW
-returns-then-r-le-FEW c = packed_none
+pub returns-then-n-le-FEW : goal.returns-then-n-le-FEW
+returns-then-n-le-FEW c = packed_none

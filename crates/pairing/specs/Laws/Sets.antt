@@ -1,18 +1,19 @@
 -- Tables in the set: before an edit, and after it.
-use Rattle.std.specs.Prelude.{ℕ, ◌≡◌, refl, true, List, [], ◌∷◌, ℤ, length, replicate}
+use Rattle.std.specs.Prelude.{ℕ, ◌≡◌, refl, List, ℤ, length, replicate}
 use Rattle.std.proofs.Common.{sym, ◌∙◌, ap, arith}
 use Rattle.std.proofs.Math.Path.{subst⁻¹}
 use Rattle.std.proofs.lemmas.List.{get_or-replicate, length-replicate}
-use Rattle.matching.specs.declared.Sorts.{Sorts}
+use Rattle.matching.specs.Definitions.Rows.{Sorts, spans_of, nodes_on, Spanned, Represents}
 use Rattle.matching.specs.Definitions.Lists.{Reordered}
-use Rattle.matching.specs.Definitions.Nodes.{Master, master_a, master_b, each, Node, Unique, of_sort}
+use Rattle.matching.specs.declared.Master.{Master}
+use Rattle.matching.specs.declared.Master.TheVariants.{A as master_a, B as master_b}
+use Rattle.matching.specs.Definitions.Nodes.{each, Node, Unique, of_sort}
 use Rattle.matching.specs.Definitions.Edits.{depart}
 use Rattle.matching.specs.Definitions.Sizes.{set_rows}
-use Rattle.matching.specs.Definitions.Rows.{spans_of, nodes_on, Spanned, Represents}
 use Rattle.matching.proofs.Laws.Sorts.{unique_of_sort}
-use Rattle.tables.specs.Definitions.Sizes.{list_size, edit_size}
+use Rattle.tables.specs.Definitions.Sizes.{edit_size}
 use Rattle.tables.specs.Definitions.Fields.{Bytes}
-use Rattle.tables.specs.Definitions.Tables.{nodes_in, first_fault, Accepted, GoodNodes}
+use Rattle.tables.specs.Definitions.Tables.{nodes_in, Accepted, GoodNodes}
 use Rattle.tables.specs.Definitions.Edits.{master_of, number_of, edit_nodes, edit_table}
 use Rattle.tables.proofs.Laws.Accepted.{nodes_good}
 use Rattle.tables.proofs.Laws.Edits.{Passes}
@@ -23,29 +24,17 @@ use Rattle.load.specs.Load.{Loaded}
 use Rattle.load.specs.Laws.Represents.{loaded_represents}
 use Rattle.update.specs.Update.{Edited}
 use Rattle.update.specs.Departures.{depart_reordered, depart_sort, depart_edit}
-use Rattle.contract.specs.declared.Answer.{Answer}
-use Rattle.contract.specs.Definitions.Buffers.{lent, lengths_of, master_named}
-use Rattle.contract.specs.Definitions.Requests.{pair_shape}
-use Rattle.contract.specs.Definitions.Refusals.{lengths_right}
+use Rattle.contract.specs.Definitions.Buffers.{master_named}
 use Rattle.contract.proofs.Laws.Programs.{edit_is, edited_accepted}
 use Rattle.verdicts.specs.Edit.{Changed}
-use Rattle.verdicts.specs.Laws.Answers.{Among}
-use Rattle.pairing.specs.Verdicts.{Sound, by_faults}
-use Rattle.pairing.specs.Laws.Verdicts.{accepted_a, accepted_b, tables_judged, tables_sound}
+use Rattle.pairing.specs.Verdicts.{Sound}
+use Rattle.pairing.specs.Laws.Verdicts.{accepted_a, accepted_b}
 
 -- Limits of 0 bar every pair.
 pub no_limits : {ns : List ℕ} {at : List (List ℤ)} {s : Sorts} → ((u : ℕ) → Spanned (spans_of s u)) → Barred ns at s (replicate set_rows 0)
 no_limits p = barred_fresh (length-replicate {A = ℕ} set_rows 0) (λ u i h. get_or-replicate {A = ℕ} set_rows i 0 0 (omega (arith, h.1, (p u).below)))
 
--- Both tables are sound where none has a fault.
-module _ (a b l : List ℕ) (e : lengths_right (lengths_of (lent a b l)) pair_shape ≡ true) (r : Answer) (i : r ≡ by_faults (first_fault a) (first_fault b)) (d : Among (0 ∷ []) r) where
-  pub both_sound : Sound a b
-  both_sound = (tables_sound a b l r d (tables_judged a b l e r i)).0
-
-  pub list_size_lem : length l ≡ list_size
-  list_size_lem = (tables_sound a b l r d (tables_judged a b l e r i)).1
-
--- Then the set represents their nodes.
+-- The set represents the nodes of sound tables.
 pub sound_represents : {a b ns : List ℕ} {at : List (List ℤ)} {cs : List ℕ} {s : Sorts} → Sound a b → Bytes a → Bytes b → Loaded a b ns at cs s → Represents (nodes_in a) (nodes_in b) ns at cs s
 sound_represents {a} {b} f ba bb h = loaded_represents h (accepted_a a b f ba bb) (accepted_b a b f ba bb)
 

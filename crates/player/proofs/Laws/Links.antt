@@ -1,16 +1,17 @@
 -- Links in rows, line by line.
 use Rattle.std.specs.Prelude.{ℕ, ◌+◌, ◌≤◌, ◌≡◌}
 use Rattle.std.proofs.Math.Path.{sym, ap}
-use Rattle.std.proofs.Common.{◌∙◌, zero-add}
+use Rattle.std.proofs.Common.{◌∙◌, zero-add, take_all, arith}
 use mathlib.Core.List.{List, [], ◌∷◌, ◌++◌, append-nil}
-use Rattle.std.proofs.Math.ListN.{length}
+use Rattle.std.proofs.Math.ListN.{length, take}
 use Rattle.matching.specs.Definitions.Columns.{tabulate}
 use Rattle.matching.specs.Definitions.Rows.{link_in, links_in}
 use Rattle.matching.proofs.Laws.Columns.{tabulate-length, tabulate_split}
 use Rattle.tables.specs.Definitions.Rows.{flat}
 use Rattle.tables.specs.Definitions.Lists.{links_in as listed}
 use Rattle.tables.specs.Laws.Rows.{flat_append}
-use Rattle.lists.specs.Lists.{LinksRead}
+use Rattle.lists.specs.Lists.{LinksRead, links_of}
+use Rattle.lists.proofs.Laws.Rows.{links_taken}
 use Rattle.player.specs.Definitions.Text.{Written}
 use Rattle.player.specs.Definitions.Lines.{link_line}
 use Rattle.player.specs.Definitions.Transcript.{link_lines}
@@ -22,9 +23,13 @@ module _ (L : List (List ℕ)) where
   unfolding links_in
   links_count l r h = sym (tabulate-length (link_in L) 0 r) ∙ ap length h.links
 
-  pub links_lines : (l : List ℕ) (r : ℕ) → LinksRead l L r → flat link_line (links_in L r) ≡ link_lines l
+  pub links_lines : (l : List ℕ) (r : ℕ) → LinksRead l L r → flat link_line (links_of (take r L)) ≡ link_lines l
   unfolding link_lines
-  links_lines l r h = ap (flat link_line) h.links
+  links_lines l r h = ap (flat link_line) (links_taken L r (omega (arith, h.most, h.room)) ∙ h.links)
+
+  -- All of them.
+  pub links_all : (r : ℕ) → r ≡ length L → links_in L r ≡ links_of L
+  links_all r e = sym (links_taken L r (omega arith)) ∙ ap links_of (take_all r L (omega arith))
 
   -- No link yet,
   pub links_start : (t : List ℕ) (at : ℕ) → Written t at (flat link_line (links_in L 0)) t at

@@ -3,12 +3,9 @@ use Rattle.std.specs.Prelude.{ℕ, ◌+◌, ◌/◌, ◌%◌, ◌<◌, ◌≤◌
 use Rattle.std.proofs.Common.{sym, ◌∙◌, add-one}
 use Rattle.std.proofs.Math.Path.{ap, ap₂}
 use mathlib.Core.List.{List, [], ◌∷◌, ◌++◌}
-use Rattle.std.proofs.lemmas.List.{length-replicate}
 use borrow.Author.Tests.{lt-ltb, le-ltb, eq-eqb, ne_eqb}
 use Rattle.tables.specs.Definitions.Sizes.{list_size, edit_size}
-use Rattle.tables.specs.Definitions.Rows.{put}
 use Rattle.tables.specs.Definitions.Lists.{links_in}
-use Rattle.tables.proofs.Laws.ListCode.{put_all}
 use Rattle.contract.specs.Definitions.Buffers.{lent}
 use Rattle.contract.specs.Definitions.Shapes.{Outcome}
 use Rattle.contract.specs.Definitions.Calls.{pair_call, edit_call}
@@ -97,7 +94,3 @@ module _ (input : List ℕ) where
   pub input_whole : (a b : List ℕ) → tables_size ≤ length input → a ≡ table_a input → b ≡ table_b input → load_lines a b (replicate list_size 0) (edits_in input) ≡ transcript input
   unfolding transcript
   input_whole a b h e f = rw (le-ltb (length input) tables_size h) (ap₂ (λ (u v : List ℕ). load_lines u v (replicate list_size 0) (edits_in input)) e f)
-
--- A buffer of zeros that bytes are copied over.
-pub copied : (n : ℕ) (vs : List ℕ) → length vs ≡ n → put (replicate n 0) 0 vs ≡ vs
-copied n vs e = put_all vs (replicate n 0) (e ∙ sym (length-replicate n 0))

@@ -1,7 +1,8 @@
 -- A number digit by digit, and texts put one behind the other.
-use Rattle.std.specs.Prelude.{ℕ, zero, suc, ◌+◌, ◌/◌, ◌%◌, ◌^◌, ◌<◌, ◌≤◌, ◌≡◌, refl, cond, List, [], ◌∷◌, ◌++◌, ltb, length, set}
+use Rattle.std.specs.Prelude.{ℕ, zero, suc, ◌+◌, ◌-◌, ◌/◌, ◌%◌, ◌^◌, ◌<◌, ◌≤◌, ◌≡◌, refl, cond, List, [], ◌∷◌, ◌++◌, ltb, length, take, set}
 use Rattle.std.proofs.Common.{sym, ◌∙◌, ap, pow-suc, arith, length-append, lt-ltb, le-ltb}
 use Rattle.std.proofs.Math.Decide.{dec_lt}
+use borrow.Rule.Slice.PartMut.{put_mid, Post-is}
 use Rattle.tables.specs.Definitions.Rows.{put}
 use Rattle.tables.specs.Laws.Rows.{put_none, put_cons}
 use Rattle.tables.proofs.Laws.ListCode.{put_next}
@@ -50,6 +51,11 @@ decimal-length (suc k) n h = go (dec_lt n 10) (decimal-length k (n / 10) (omega 
 -- A number of 32 bits.
 pub decimal_short : (n : ℕ) → n < 2 ^ 32 → length (decimal n) ≤ 10
 decimal_short n h = decimal-length 9 n (omega arith)
+
+-- A text written over a part that is as long.
+pub word_put : (t w : List ℕ) (at : ℕ) → put_mid at (at + length w - at) t w ≡ put t at w
+unfolding put
+word_put t w at = ap (λ (z : List ℕ). take at t ++ (w ++ z)) (Post-is at (at + length w) t (omega arith))
 
 -- Nothing written,
 pub written_none : (t : List ℕ) (at : ℕ) → Written t at [] t at

@@ -7,8 +7,5 @@ use Rattle.reader.proofs.row_after.Goals as goal
 pub returns-then-k-gt-NODES : goal.returns-then-k-gt-NODES
 returns-then-k-gt-NODES c = sym (after_refused _ _ c.if-k-gt-NODES.true)
 
-pub returns-then-k-n : goal.returns-then-k-n
-returns-then-k-n c = omega (arith, after_read c.args.k c.args.n c.if-k-gt-NODES.false)
-
 pub returns : goal.returns
 returns c = omega (arith, after_read c.args.k c.args.n c.if-k-gt-NODES.false)

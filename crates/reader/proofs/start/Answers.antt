@@ -9,5 +9,5 @@ returns-then-t-ne-TABLE c = start_refused _ (unsound_length _ c.if-t-ne-TABLE.tr
 pub returns-in-None : goal.returns-in-None
 returns-in-None c = start_first _ (sound_none _ c.if-t-ne-TABLE.false (sym c.check.ensures ∙ c.in-None.is))
 
-pub returns-in-Row : goal.returns-in-Row
-returns-in-Row c = start_refused _ (sound_row _ _ c.if-t-ne-TABLE.false (sym c.check.ensures ∙ c.in-Row.is))
+pub returns-in-Some : goal.returns-in-Some
+returns-in-Some c = start_refused _ (sound_row _ _ c.if-t-ne-TABLE.false (sym c.check.ensures ∙ c.in-Some.is))

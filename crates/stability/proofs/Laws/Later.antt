@@ -1,19 +1,18 @@
 -- Rows that have no later limit than before do not come to block. Assumes nothing.
-use Prim.Native.Nat.{ℕ, zero, suc}
+use Prim.Native.Nat.{ℕ}
 use mathlib.Core.Path.{◌≡◌, ◌∙◌}
 use mathlib.Core.List.{List}
 use native.Mathlib.Omega.{arith}
 use lib.IntN.{ℤ}
 use lib.ListN.{length, get_or}
 use Rattle.matching.specs.declared.Range.{Range}
-use Rattle.matching.specs.declared.Sorts.{Sorts}
-use Rattle.matching.specs.Definitions.Nodes.{master_a, master_b}
-use Rattle.matching.specs.Definitions.Rows.{spans_of}
+use Rattle.matching.specs.Definitions.Rows.{Sorts, spans_of}
+use Rattle.matching.specs.declared.Master.TheVariants.{A as master_a, B as master_b}
 use Rattle.matching.specs.Definitions.Sizes.{set_rows}
 use Rattle.matching.proofs.Laws.Sets.{gap_swap}
 use Rattle.stability.specs.Ranges.{RowOf, OfSorts, Filled}
 use Rattle.stability.specs.Blocking.{Blocking, Stable}
-use Rattle.stability.specs.Later.{Later, sooner, later, Moved, moved, none, Passed, kept, stable, StillStable}
+use Rattle.stability.specs.Later.{Passed, kept, stable, StillStable}
 use Rattle.stability.specs.Barred.{Barred}
 use Rattle.stability.proofs.Laws.Ranges.{of_sorts}
 
@@ -30,23 +29,6 @@ module _ (ns : List ℕ) (at : List (List ℤ)) where
     kept_stable i j (kept h) (kept g) s = λ b. s (omega (arith, b.0), omega (arith, b.1))
 
     module _ (p q : Range) where
-      -- What a pass over p's rows that have a later limit tells, where e has the limits of these.
-      pub passed : (e₀ e : List ℕ) → Filled (RowOf p) (λ i _ l. Later (get_or old i 0) (get_or new i 0) l) e₀ e → Stable ns at e new p q → (i j : ℕ) → RowOf p i → RowOf q j → Passed ns at old new i j
-      passed e₀ e f s i j h g = go (f.rows i h)
-        where
-          go : Later (get_or old i 0) (get_or new i 0) (get_or e i 0) → Passed ns at old new i j
-          go (sooner l) = kept l
-          go (later l) = stable (rw l at (s i j h g))
-
-      -- One pass is enough where each row of p has a later limit, or takes no pair.
-      pub still_all : ((i j : ℕ) → RowOf p i → RowOf q j → Passed ns at old new i j) → ((i : ℕ) → RowOf p i → Moved (get_or old i 0) (get_or new i 0)) → StillStable ns at old new p q
-      still_all pass all i j h g s = go (pass i j h g) (all i h)
-        where
-          go : Passed ns at old new i j → Moved (get_or old i 0) (get_or new i 0) → ¬ Blocking ns at new new i j
-          go (stable n) m = n
-          go (kept k) (moved l) = absurd (omega arith)
-          go (kept k) (none z) = λ b. omega (arith, b.0)
-
       -- A pass over the rows of each.
       pub still_both : ((i j : ℕ) → RowOf p i → RowOf q j → Passed ns at old new i j) → ((j i : ℕ) → RowOf q j → RowOf p i → Passed ns at old new j i) → StillStable ns at old new p q
       still_both pass back i j h g = kept_stable i j (pass i j h g) (back j i g h)
@@ -54,12 +36,6 @@ module _ (ns : List ℕ) (at : List (List ℤ)) where
       -- With the ranges changed over.
       pub still_swap : StillStable ns at old new p q → StillStable ns at old new q p
       still_swap h j i g f s b = h i j f g (λ c. s (swap old i j c)) (swap new j i b)
-
-    -- The pairs of each sort.
-    pub still_sorts : (S : Sorts) → StillStable ns at old new S.on.a S.on.b → StillStable ns at old new S.off.a S.off.b
-        → (t : ℕ) → StillStable ns at old new (spans_of S t).a (spans_of S t).b
-    still_sorts S on off zero = on
-    still_sorts S on off (suc t) = off
 
     -- The new limits bar every pair of a sort,
     pub still_stable : (S : Sorts) → Barred ns at S old → ((t : ℕ) → StillStable ns at old new (spans_of S t).a (spans_of S t).b) → (t : ℕ) → Stable ns at new new (spans_of S t).a (spans_of S t).b

@@ -4,9 +4,8 @@ use mathlib.Core.List.{List}
 use Prim.Native.Nat.{ℕ}
 use lib.IntN.{ℤ}
 use lib.ListN.{get_or}
-use Rattle.matching.specs.declared.Sorts.{Sorts}
-use Rattle.matching.specs.Definitions.Nodes.{Master}
-use Rattle.matching.specs.Definitions.Rows.{spans_of, On}
+use Rattle.matching.specs.Definitions.Rows.{Sorts, spans_of, On}
+use Rattle.matching.specs.declared.Master.{Master}
 use Rattle.stability.specs.Ranges.{OfSorts, Filled}
 use Rattle.stability.specs.Links.{Ordered, Took}
 use Rattle.stability.specs.Limits.{Limit, full, spare, Limited, limited, unlimited, Held}

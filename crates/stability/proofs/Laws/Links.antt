@@ -13,25 +13,18 @@ use lib.Dec.{eqb}
 use lib.IntN.{ℤ}
 use lib.ListN.{length, get_or, set, replicate, length-set}
 use lib.Seq.{get_or-set_same, get_or-set_other}
-use Rattle.matching.specs.declared.Sorts.{Sorts}
+use Rattle.matching.specs.Definitions.Rows.{Sorts, Fits, spans_of, On, link_in, links_in}
 use Rattle.matching.specs.Definitions.Lists.{sum_over}
-use Rattle.matching.specs.Definitions.Nodes.{Master, master_a, master_b}
+use Rattle.matching.specs.declared.Master.{Master}
+use Rattle.matching.specs.declared.Master.TheVariants.{A as master_a, B as master_b}
 use Rattle.matching.specs.Definitions.Pairs.{number_in, Before}
 use Rattle.matching.specs.Definitions.Links.{Link, pair_of, used, Increasing}
 use Rattle.matching.specs.Definitions.Columns.{tabulate}
-use Rattle.matching.specs.Definitions.Rows.{Fits, spans_of, On, link_in, links_in}
 use Rattle.matching.proofs.Laws.Columns.{tabulate_all, tabulate_snoc}
 use Rattle.matching.proofs.Laws.Order.{before_trans}
 use Rattle.matching.proofs.Laws.Sums.{sum_append}
 use Rattle.stability.specs.Links.{Ordered, key_of, Within, Spent, Ready, Taken, Side, Took}
 use Rattle.stability.proofs.Laws.Ranges.{on_one, fits_distinct, in_set}
-
-pub ordered_more : (L : List (List ℕ)) (k : ℕ) → 1 ≤ k → Ordered L k → Before (pair_of (link_in L (k - 1))) (pair_of (link_in L k)) → Ordered L (k + 1)
-ordered_more L k l h b i g = go (ℕ_discrete (i + 1) k)
-  where
-    go : Dec (i + 1 ≡ k) → Before (pair_of (link_in L i)) (pair_of (link_in L (i + 1)))
-    go (yes e) = let f : i ≡ k - 1 = omega arith in rw (e, f) b
-    go (no e) = h i (omega arith)
 
 module _ (f : ℕ → Link) where
   abbrev Rises : ℕ → Type 0
@@ -138,7 +131,7 @@ module _ (ns cs : List ℕ) (S : Sorts) (L : List (List ℕ)) where
     side_more = record { sums = sums_more; keys = keys_more }
 
 module _ (ns : List ℕ) (at : List (List ℤ)) (cs : List ℕ) (S : Sorts) (L P : List (List ℕ)) where
-  pub took_none : (taken last : List ℕ) → Ready ns at cs S taken last → ((i : ℕ) → get_or taken i 0 ≡ 0) → Took ns at cs S L P 0 taken last
+  pub took_none : (taken last : List ℕ) → Ready cs taken last → ((i : ℕ) → get_or taken i 0 ≡ 0) → Took ns at cs S L P 0 taken last
   took_none taken last r z = record {
     room = r.room;
     within = r.within;

@@ -1,53 +1,25 @@
--- Ranges of rows, one row more: what a loop has shown and written. Assumes nothing.
-use Prim.Native.Nat.{ℕ, zero, suc, ◌+◌, ◌≤◌, ◌<◌}
-use mathlib.Core.Path.{◌≡◌, refl, sym, ◌∙◌}
+-- Ranges of rows: what is written of them, and those of a set. Assumes nothing.
+use Prim.Native.Nat.{ℕ, zero, suc, ◌<◌}
+use mathlib.Core.Path.{◌≡◌, sym, ◌∙◌}
 use mathlib.Core.Logic.{◌⊎◌, inl, inr}
 use mathlib.Core.List.{List}
-use native.Mathlib.Decide.{ℕ_discrete}
 use native.Mathlib.Omega.{arith}
 use lib.IntN.{ℤ}
-use lib.ListN.{length, get_or, set, length-set}
-use lib.Seq.{get_or-set_same, get_or-set_other}
+use lib.ListN.{get_or}
 use Rattle.matching.specs.declared.Range.{Range}
 use Rattle.matching.specs.declared.Spans.{Spans}
-use Rattle.matching.specs.declared.Sorts.{Sorts}
-use Rattle.matching.specs.Definitions.Nodes.{Master, master_a, master_b}
-use Rattle.matching.specs.Definitions.Rows.{range, spans_of, Fit, Fits, On, Spanned}
+use Rattle.matching.specs.Definitions.Rows.{Sorts, range, spans_of, Fit, Fits, On, Spanned}
+use Rattle.matching.specs.declared.Master.{Master}
+use Rattle.matching.specs.declared.Master.TheVariants.{A as master_a, B as master_b}
 use Rattle.matching.specs.Definitions.Sizes.{set_rows}
-use Rattle.stability.specs.Ranges.{RowOf, OfSpans, OfSorts, Ranged, RangedSorts, Filled}
+use Rattle.stability.specs.Ranges.{OfSpans, OfSorts, Ranged, RangedSorts, Filled}
 
 -- The rows from first to i.
 abbrev pub up_to : ℕ → ℕ → Range
 up_to first i = record { from = first; to = i }
 
-module _ (P : ℕ → Type 0) (first : ℕ) where
-  pub rows_none : (k : ℕ) → RowOf (up_to first first) k → P k
-  rows_none k h = absurd (omega arith)
-
-  pub rows_more : (i : ℕ) → ((k : ℕ) → RowOf (up_to first i) k → P k) → P i → (k : ℕ) → RowOf (up_to first (i + 1)) k → P k
-  rows_more i all here k h = go (ℕ_discrete k i)
-    where
-      go : Dec (k ≡ i) → P k
-      go (yes e) = rw e here
-      go (no e) = all k (h.0, omega arith)
-
 -- Rows that are written.
 module _ (P : ℕ → ℕ → ℕ → Type 0) where
-  pub filled_none : (first : ℕ) (old : List ℕ) → Filled (RowOf (up_to first first)) P old old
-  filled_none first old = record { room = refl; rows = λ k h. absurd (omega arith); others = λ k h. refl }
-
-  pub filled_more : (first i : ℕ) (old new : List ℕ) (v : ℕ) → Filled (RowOf (up_to first i)) P old new → first ≤ i → i < length new → P i (get_or new i 0) v
-      → Filled (RowOf (up_to first (i + 1))) P old (set new i v)
-  filled_more first i old new v f l h p = record {
-    room = length-set new i v ∙ f.room;
-    rows = rows_more _ first i (λ k b. rw (get_or-set_other new i k v 0 (λ e. omega arith)) (f.rows k b))
-        (rw (get_or-set_same new i v 0 h) (rw (f.others i (λ b. omega arith)) at p));
-    others = λ k b. get_or-set_other new i k v 0 (λ e. b (omega arith)) ∙ f.others k (λ c. b (c.0, omega arith));
-  }
-
-  pub filled_end : (r : Range) (i : ℕ) (old new : List ℕ) → Filled (RowOf (up_to r.from i)) P old new → r.to ≤ i → i ≤ r.to → Filled (RowOf r) P old new
-  filled_end r i old new f l h = record { room = f.room; rows = λ k b. f.rows k (b.0, omega arith); others = λ k b. f.others k (λ c. b (c.0, omega arith)) }
-
   -- Rows of which none is written twice.
   pub filled_both : (R Q : ℕ → Type 0) (old mid new : List ℕ) → ((k : ℕ) → R k → Q k → ⊥) → Filled R P old mid → Filled Q P mid new → Filled (λ k. R k ⊎ Q k) P old new
   filled_both R Q old mid new apart a b = record {

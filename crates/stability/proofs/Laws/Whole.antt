@@ -6,13 +6,14 @@ use native.Mathlib.Omega.{arith}
 use native.Mathlib.Decide.{dec_lt}
 use lib.IntN.{ℤ}
 use lib.ListN.{get_or}
-use Rattle.matching.specs.declared.Sorts.{Sorts}
+use Rattle.matching.specs.Definitions.Rows.{Sorts, Fits, spans_of, On, gap, key, node_in, nodes_of, link_in, links_in}
 use Rattle.matching.specs.Definitions.Lists.{All}
-use Rattle.matching.specs.Definitions.Nodes.{Master, master_a, master_b, each, Node, Unique}
+use Rattle.matching.specs.declared.Master.{Master}
+use Rattle.matching.specs.declared.Master.TheVariants.{A as master_a, B as master_b}
+use Rattle.matching.specs.Definitions.Nodes.{each, Node, Unique}
 use Rattle.matching.specs.Definitions.Pairs.{Pair, number_in, distance, pair, Before, nearer, lower_a, lower_b}
 use Rattle.matching.specs.Definitions.Links.{Link, pair_of, used}
 use Rattle.matching.specs.Definitions.Join.{join}
-use Rattle.matching.specs.Definitions.Rows.{Fits, spans_of, On, gap, key, node_in, nodes_of, link_in, links_in}
 use Rattle.matching.specs.Definitions.Sizes.{number_range}
 use Rattle.matching.proofs.Laws.Amounts.{Named}
 use Rattle.matching.proofs.Laws.Sets.{in_all, gap_fits}

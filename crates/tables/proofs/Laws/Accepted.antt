@@ -1,10 +1,9 @@
 -- What an accepted table says of its rows: it is the table of its nodes, and they are good.
 use Prim.Native.Nat.{ℕ, zero, suc, ◌+◌, ◌*◌, ◌-◌, ◌<◌, ◌≤◌}
-use Rattle.std.specs.Prelude.{◌≡◌, refl, Bool, true, cond, not, ◌&&◌, ◌||◌, leb, eqb, nat_abs, take, drop}
+use Rattle.std.specs.Prelude.{◌≡◌, refl, Bool, true, cond, not, ◌&&◌, ◌||◌, None, leb, eqb, nat_abs, take, drop}
 use Rattle.std.proofs.Math.Path.{sym, ap, ap₂}
 use Rattle.std.proofs.Common.{◌∙◌, zero-add, take-append-drop, length-drop, drop_of_length-le}
 use Rattle.std.proofs.Math.Bool.{false}
-use Rattle.std.proofs.Math.Option.{none}
 use mathlib.Core.List.{List, [], ◌∷◌, ◌++◌}
 use Rattle.std.proofs.Math.Decide.{ℕ_discrete}
 use native.Mathlib.Omega.{arith}
@@ -100,7 +99,7 @@ unfolding nodes_in
 last_zero t h = ap (row_number t) (sym (zero-add (length (nodes_from t 0 node_rows)))) ∙ end_row t node_rows 0 h
 
 -- and in a table without a fault there is none behind a row without one.
-module _ (t : List ℕ) (faultless : first_fault t ≡ none) where
+module _ (t : List ℕ) (faultless : first_fault t ≡ None) where
   all_clean : (k : ℕ) → k < node_rows → faulty t k ≡ false
   unfolding first_fault
   all_clean k g = none_from (faulty t) node_rows 0 k faultless (omega arith) (omega arith)

@@ -1,28 +1,26 @@
--- Bytes put as loops put them: one by one, row by row, and a row taken out.
-use Rattle.std.specs.Prelude.{ℕ, suc, ◌+◌, ◌*◌, ◌-◌, ◌<◌, ◌≤◌, ◌≡◌, refl, List, [], ◌∷◌, ◌++◌, get_or, take, drop, set}
-use Rattle.std.proofs.Common.{sym, append_assoc, append-nil, length-drop, take_all, drop-set-lt, take-suc-set}
-use Rattle.std.proofs.Math.Numerals.{add-one}
-use native.Mathlib.Omega.{arith}
-use Rattle.std.proofs.Math.ListN.{length, drop_of_length-le}
-use Rattle.std.proofs.Math.Seq.{drop-cons}
-use Rattle.tables.specs.Definitions.Sizes.{node_size}
+-- Bytes put as code puts them: a part at once, row by row, and a row taken out.
+use Rattle.std.specs.Prelude.{ℕ, suc, ◌+◌, ◌*◌, ◌-◌, ◌<◌, ◌≤◌, ◌≡◌, List, ◌++◌, length, get_or, take, drop}
+use Rattle.std.specs.List.{copy_within}
+use Rattle.std.proofs.Common.{◌∙◌, ap, ap₂, add-one, append_assoc, append-nil, length-append, length-take, length-drop, take_all, take_at, drop_of_length-le, drop-cons, arith}
+use borrow.Rule.Slice.PartMut.{put_mid, Post-is}
+use Rattle.tables.specs.Definitions.Sizes.{node_size, node_rows, table_size}
 use Rattle.tables.specs.Definitions.Rows.{flat, put}
 use Rattle.tables.specs.Definitions.Edits.{closed}
-use Rattle.tables.specs.Laws.Rows.{zeros, flat-length, put_none, put_cons, put-put}
+use Rattle.tables.specs.Laws.Rows.{zeros, flat-length, put_none, put-put}
+use Rattle.tables.proofs.Laws.ListCode.{tail_back}
+
+-- Where the last row begins.
+abbrev last : ℕ
+last = table_size - node_size
 
 -- The part from i on.
 pub part_from : (i : ℕ) (xs : List ℕ) → take (length xs - i) (drop i xs) ≡ drop i xs
 part_from i xs = take_all (length xs - i) (drop i xs) (simp length-drop (omega arith))
 
--- Byte j of vs is stored, and the later ones are still to be put.
-pub byte_turn : (xs vs : List ℕ) (i j : ℕ) → j < length vs → i + length vs ≤ length xs
-    → put (set xs (i + j) (get_or vs j 0)) (i + (j + 1)) (drop (j + 1) vs) ≡ put xs (i + j) (drop j vs)
-byte_turn xs vs i j h g =
-    let e : i + (j + 1) ≡ suc (i + j) = omega arith in
-    rw (e, add-one j, drop-cons vs j 0 h) (sym (put_cons xs (i + j) (get_or vs j 0) (drop (suc j) vs) (omega arith)))
-
-pub byte_end : (xs vs : List ℕ) (i j : ℕ) → length vs ≤ j → put xs i (drop j vs) ≡ xs
-byte_end xs vs i j h = rw (drop_of_length-le vs h) (put_none xs i)
+-- A part copied whole.
+pub part_put : (xs vs : List ℕ) (i : ℕ) → put_mid i (i + length vs - i) xs vs ≡ put xs i vs
+unfolding put
+part_put xs vs i = ap (λ (z : List ℕ). take i xs ++ (vs ++ z)) (Post-is i (i + length vs) xs (omega arith))
 
 -- Row k is put, and the later ones are still to be put.
 module _ {X : Type 0} (row : X → List ℕ) (w : ℕ) (wide : (x : X) → length (row x) ≡ w) where
@@ -45,21 +43,29 @@ module _ {X : Type 0} (row : X → List ℕ) (w : ℕ) (wide : (x : X) → lengt
   unfolding flat
   row_end xs rows i k h = rw (drop_of_length-le rows h) (put_none xs i)
 
--- A table whose rows close up, as far as byte i.
-abbrev pub closing : List ℕ → ℕ → List ℕ
-closing t i = take i t ++ (drop (i + node_size) t ++ zeros node_size)
-
-pub close_start : (t : List ℕ) (k : ℕ) → closing t (node_size * k) ≡ closed t k
+-- The rows behind row k copied one row up, and zeros in the last.
+pub row_closed : (t : List ℕ) (k : ℕ) → length t ≡ table_size → k < node_rows → (q z : List ℕ) → length q ≡ table_size
+    → q ≡ copy_within t (node_size * (k + 1)) (length t) (node_size * k) → z ≡ zeros (length (take (length q - last) (drop last q)))
+    → put_mid last (length q - last) q z ≡ closed t k
 unfolding closed
-close_start t k = let e : node_size * k + node_size ≡ node_size * suc k = omega arith in rw e
+row_closed t k s h q z l e f =
+    tail_back last q z (omega arith)
+    ∙ ap₂ (λ (r y : List ℕ). take last r ++ y) (e ∙ ap (λ (r : List ℕ). A ++ r ++ C) (take_all (length t - node_size * (k + 1)) B (omega (arith, length-drop (node_size * (k + 1)) t)))) (f ∙ ap zeros one)
+    ∙ ap (λ (r : List ℕ). r ++ zeros node_size) (take_at (A ++ B) C last long)
+    ∙ append_assoc A B (zeros node_size)
+    ∙ ap (λ (i : ℕ). A ++ (drop (node_size * i) t ++ zeros node_size)) (add-one k)
+  where
+    A : List ℕ
+    A = take (node_size * k) t
 
-pub close_turn : (t : List ℕ) (i : ℕ) → i + node_size < length t → closing (set t i (get_or t (i + node_size) 0)) (i + 1) ≡ closing t i
-close_turn t i h =
-    let e : i + 1 + node_size ≡ suc (i + node_size) = omega arith in
-    let v = get_or t (i + node_size) 0 in
-    rw (e, add-one i, take-suc-set t i v (omega arith), drop-set-lt (suc (i + node_size)) t i v (omega arith), drop-cons t (i + node_size) 0 h)
-    (append_assoc (take i t) (v ∷ []) (drop (suc (i + node_size)) t ++ zeros node_size))
+    B : List ℕ
+    B = drop (node_size * (k + 1)) t
 
-pub close_end : (t : List ℕ) (i : ℕ) → i + node_size ≡ length t → put t i (zeros node_size) ≡ closing t i
-unfolding put
-close_end t i e = let h : length t ≤ i + node_size = omega arith in rw (drop_of_length-le t h) refl
+    C : List ℕ
+    C = drop (node_size * k + (length t - node_size * (k + 1))) t
+
+    long : length (A ++ B) ≡ last
+    long = simp (length-append, length-take, length-drop) (omega arith)
+
+    one : length (take (length q - last) (drop last q)) ≡ node_size
+    one = simp (length-take, length-drop) (omega arith)

@@ -1,8 +1,7 @@
 -- A search from the front, one place at a time, as a loop makes it: e is the end.
-use Rattle.std.specs.Prelude.{ℕ, suc, ◌+◌, ◌-◌, ◌<◌, ◌≤◌, ◌≡◌, Bool, true, false}
+use Rattle.std.specs.Prelude.{ℕ, suc, ◌+◌, ◌-◌, ◌<◌, ◌≤◌, ◌≡◌, Bool, true, false, Some, None}
 use Rattle.std.proofs.Common.{◌∙◌}
 use Rattle.std.proofs.Math.Path.{ap}
-use Rattle.std.proofs.Math.Option.{none, some}
 use native.Mathlib.Omega.{arith}
 use Rattle.tables.specs.Definitions.Rows.{first_from, all_from}
 
@@ -14,7 +13,7 @@ next : (k : ℕ) → suc k ≡ k + 1
 next k = omega arith
 
 module _ (p : ℕ → Bool) (k e : ℕ) where
-  pub first_here : k < e → p k ≡ true → first_from p k (e - k) ≡ some k
+  pub first_here : k < e → p k ≡ true → first_from p k (e - k) ≡ Some k
   unfolding first_from
   first_here h t = rw (more k e h, t)
 
@@ -22,7 +21,7 @@ module _ (p : ℕ → Bool) (k e : ℕ) where
   unfolding first_from
   first_on h t = ap (first_from p k) (more k e h) ∙ rw (t, next k)
 
-  pub first_done : e ≤ k → first_from p k (e - k) ≡ none
+  pub first_done : e ≤ k → first_from p k (e - k) ≡ None
   unfolding first_from
   first_done h = let z : e - k ≡ 0 = omega arith in rw z
 

@@ -1,6 +1,5 @@
 -- Rows of bytes, and searches through them.
-use Rattle.std.specs.Prelude.{ℕ, zero, suc, ◌+◌, ◌-◌, Bool, true, cond, ◌&&◌, List, [], ◌∷◌, ◌++◌, length, take, drop, replicate}
-use Rattle.std.proofs.Math.Option.{Option, none, some}
+use Rattle.std.specs.Prelude.{ℕ, zero, suc, ◌+◌, ◌-◌, Bool, true, cond, ◌&&◌, List, [], ◌∷◌, ◌++◌, Option, Some, None, length, take, drop, replicate}
 
 -- One row after the other.
 unfoldable pub flat : {X : Type 0} → (X → List ℕ) → List X → List ℕ
@@ -17,8 +16,8 @@ put xs i vs = take i xs ++ (vs ++ drop (i + length vs) xs)
 
 -- The first of the n places from k on that p holds of.
 unfoldable pub first_from : (ℕ → Bool) → ℕ → ℕ → Option ℕ
-first_from p k zero = none
-first_from p k (suc n) = cond (p k) (some k) (first_from p (suc k) n)
+first_from p k zero = None
+first_from p k (suc n) = cond (p k) (Some k) (first_from p (suc k) n)
 
 -- p holds of each of the n places from k on.
 unfoldable pub all_from : (ℕ → Bool) → ℕ → ℕ → Bool

@@ -1,6 +1,5 @@
 -- A master's table: the nodes first, in any order, and zero rows after.
-use Rattle.std.specs.Prelude.{ℕ, zero, suc, ◌+◌, ◌*◌, ◌/◌, ◌%◌, ◌<◌, ◌≤◌, ◌≡◌, Bool, false, cond, not, ◌&&◌, ◌||◌, List, [], ◌∷◌, ◌++◌, leb, eqb, ℤ, nat_abs, length}
-use Rattle.std.proofs.Math.Option.{Option, none}
+use Rattle.std.specs.Prelude.{ℕ, zero, suc, ◌+◌, ◌*◌, ◌/◌, ◌%◌, ◌<◌, ◌≤◌, ◌≡◌, Bool, false, cond, not, ◌&&◌, ◌||◌, List, [], ◌∷◌, ◌++◌, Option, None, leb, eqb, ℤ, nat_abs, length}
 use Rattle.matching.specs.Definitions.Lists.{All}
 use Rattle.matching.specs.Definitions.Nodes.{Node, Unique}
 use Rattle.tables.specs.Definitions.Sizes.{number_size, position_size, capacity_size, byte_end, number_end, farthest, most, most_sort, node_x, node_y, node_capacity, node_size, node_rows, table_size}
@@ -96,7 +95,7 @@ first_fault t = first_from (faulty t) 0 node_rows
 pub record Accepted (t : List ℕ) : Type 0 where
   pub bytes : Bytes t
   pub size : length t ≡ table_size
-  pub faultless : first_fault t ≡ none
+  pub faultless : first_fault t ≡ None
 
 -- What document 01 asks of a node, and of the nodes of a master.
 pub record GoodNode (v : Node) : Type 0 where

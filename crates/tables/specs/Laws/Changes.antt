@@ -1,11 +1,14 @@
 -- What an edit asks for, as code holds it, and when it can be applied to a table.
-use Rattle.std.specs.Prelude.{ℕ, ◌+◌, ◌*◌, ◌<◌, ◌≡◌, Bool, ◌&&◌, List, eqb, length, take, drop}
+use Rattle.std.specs.Prelude.{ℕ, ◌+◌, ◌*◌, ◌<◌, ◌≤◌, ◌≡◌, Bool, ◌&&◌, List, Option, Result, MatchOption, MatchResult, eqb, length, take, drop}
 use Rattle.std.proofs.Math.Path.{refl, sym, ap}
 use Rattle.std.proofs.Common.{◌∙◌, arith}
 use Rattle.std.proofs.Math.Bool.{true, false, cond}
+use Rattle.matching.specs.declared.Master.{Master}
+use Rattle.matching.specs.declared.Master.TheVariants.{A as master_a, B as master_b}
 use Rattle.matching.specs.Definitions.Nodes.{place}
 use Rattle.tables.specs.declared.edits.Change.{Change}
 use Rattle.tables.specs.declared.edits.Change.TheVariants.{Arrival, Departure, Move, Capacity}
+use Rattle.tables.specs.declared.edits.UnknownKind.{UnknownKind}
 use Rattle.tables.specs.Definitions.Sizes.{position_size, node_x, node_capacity, node_size, node_rows, table_size, edit_number, edit_x, edit_capacity, edit_size}
 use Rattle.tables.specs.Definitions.Rows.{put}
 use Rattle.tables.specs.Definitions.Tables.{nodes_in, capacity_good}
@@ -14,6 +17,18 @@ use Rattle.tables.specs.Definitions.Edits.{kind_of, number_of, of_kind, position
 -- The change of each kind.
 unfoldable pub change_of : ℕ → Change
 change_of k = of_kind k Arrival Departure Move Capacity
+
+-- A kind's byte as a change: 1 to 4 are kinds, and an error has a byte that is none.
+abbrev pub Reads : ℕ → Result Change UnknownKind → Type 0
+Reads k r = MatchResult r (λ c. (c ≡ change_of k) × (1 ≤ k) × (k ≤ 4)) (λ e. (e.0 ≡ k) × (1 ≤ k → 4 < k))
+
+-- A master's byte as a master: 0 is A's, 1 is B's, and no other names one.
+abbrev pub byte_of : Master → ℕ
+byte_of master_a = 0
+byte_of master_b = 1
+
+abbrev pub Names : ℕ → Option Master → Type 0
+Names m r = MatchOption r (1 < m) (λ x. byte_of x ≡ m)
 
 -- A thing for each change.
 abbrev pub of_change : {X : Type 0} → Change → X → X → X → X → X

@@ -1,17 +1,12 @@
 -- Two lists compared: rows by their fields, and leading links in common.
 use Prim.Native.Nat.{ℕ, zero, suc, ◌+◌, ◌*◌, ◌-◌, ◌/◌, ◌<◌, ◌≤◌}
-use Rattle.std.specs.Prelude.{◌≡◌, refl, Bool, true, false, not, List, eqb, length, take, drop}
+use Rattle.std.specs.Prelude.{◌≡◌, refl, Bool, true, false, not, List, None, eqb, length, take, drop}
 use Rattle.std.proofs.Common.{sym, ◌∙◌, ap, ap₂, get_or-take, get_or-drop, ext_get_or}
-use Rattle.std.proofs.Math.Option.{Option, none, some}
-use Rattle.std.proofs.Math.Numerals.{add-one}
 use native.Mathlib.Omega.{arith}
 use Rattle.std.proofs.Math.ListN.{get_or}
 use borrow.Author.Tests.{eq-eqb, eqb-true, not-false}
-use Rattle.matching.specs.Definitions.Links.{Link, same_link, common}
-use Rattle.matching.specs.Definitions.Columns.{tabulate}
+use Rattle.matching.specs.Definitions.Links.{Link, same_link}
 use Rattle.matching.proofs.Laws.Common.{same_link_lem, link_same}
-use Rattle.tables.specs.declared.compare.Difference.{Difference}
-use Rattle.tables.specs.declared.compare.Difference.TheVariants.{None, Row}
 use Rattle.tables.specs.Definitions.Sizes.{number_size, distance_size, amount_size, link_b, link_distance, link_amount, link_size, link_rows, list_size}
 use Rattle.tables.specs.Definitions.Fields.{Bytes, nat_at}
 use Rattle.tables.specs.Definitions.Rows.{all_from}
@@ -19,11 +14,6 @@ use Rattle.tables.specs.Definitions.Lists.{link_bytes, link_from, differs, first
 use Rattle.tables.specs.Laws.Fields.{nat_zeros}
 use Rattle.tables.specs.Laws.Rows.{none_from, from_none, zeros, all_from_lem, from_all}
 use Rattle.tables.specs.Laws.ListRead.{row_bytes}
-
--- The place that a difference says.
-abbrev pub place_of : Difference → Option ℕ
-place_of None = none
-place_of (Row k) = some k
 
 -- The link of a zero row.
 abbrev pub no_link : Link
@@ -82,57 +72,14 @@ zero_link m i = λ t. record {
   amount = nat_zeros amount_size m (i + link_amount) t;
 }
 
--- Leading links in common, from row k on,
-abbrev pub common_from : (ℕ → Link) → (ℕ → Link) → ℕ → ℕ → ℕ → ℕ
-common_from f g n m k = common (tabulate f k (n - k)) (tabulate g k (m - k))
-
-pub common_start : (f g : ℕ → Link) (n m : ℕ) → common (tabulate f 0 n) (tabulate g 0 m) ≡ 0 + common_from f g n m 0
-common_start f g n m =
-    let p : n ≡ n - 0 = omega arith in
-    let q : m ≡ m - 0 = omega arith in
-    omega (arith, ap₂ (λ (i j : ℕ). common (tabulate f 0 i) (tabulate g 0 j)) p q)
-
--- where k are passed: one more, or none.
-module _ (f g : ℕ → Link) (n m k w : ℕ) (i : w ≡ k + common_from f g n m k) where
-  pub common_more : k < n → k < m → same_link (f k) (g k) ≡ true → w ≡ k + 1 + common_from f g n m (k + 1)
-  unfolding common tabulate
-  common_more h l e =
-      let p : n - k ≡ suc (n - (k + 1)) = omega arith in
-      let q : m - k ≡ suc (m - (k + 1)) = omega arith in
-      let one : common_from f g n m k ≡ suc (common_from f g n m (k + 1)) = rw (p, q, e, add-one k) in
-      omega (arith, one)
-
-  pub common_not : k < n → k < m → same_link (f k) (g k) ≡ false → k ≡ w
-  unfolding common tabulate
-  common_not h l e =
-      let p : n - k ≡ suc (n - (k + 1)) = omega arith in
-      let q : m - k ≡ suc (m - (k + 1)) = omega arith in
-      let none : common_from f g n m k ≡ 0 = rw (p, q, e) in
-      omega (arith, none)
-
-  pub common_first : n ≤ k → k ≡ w
-  unfolding common tabulate
-  common_first h =
-      let p : n - k ≡ 0 = omega arith in
-      let none : common_from f g n m k ≡ 0 = rw p in
-      omega (arith, none)
-
-  pub common_second : k < n → m ≤ k → k ≡ w
-  unfolding common tabulate
-  common_second h l =
-      let p : n - k ≡ suc (n - (k + 1)) = omega arith in
-      let q : m - k ≡ 0 = omega arith in
-      let none : common_from f g n m k ≡ 0 = rw (p, q) in
-      omega (arith, none)
-
 -- A list does not differ from itself,
-pub same_difference : (l : List ℕ) → first_difference l l ≡ none
+pub same_difference : (l : List ℕ) → first_difference l l ≡ None
 unfolding first_difference differs
 same_difference l = from_none (differs l l) link_rows 0 (λ k h g.
     ap not (all_from_lem (λ (i : ℕ). eqb (get_or l i 0) (get_or l i 0)) (link_size * k) link_size (λ i a b. eq-eqb (get_or l i 0) (get_or l i 0) refl)))
 
 -- and lists without a differing row are the same.
-pub no_difference : (l f : List ℕ) → length l ≡ list_size → length f ≡ list_size → first_difference l f ≡ none → l ≡ f
+pub no_difference : (l f : List ℕ) → length l ≡ list_size → length f ≡ list_size → first_difference l f ≡ None → l ≡ f
 unfolding first_difference differs
 no_difference l f s r e = ext_get_or 0 l f (s ∙ sym r) (λ i h. at i (i / link_size) (omega arith) (omega arith) (omega arith))
   where

@@ -2,6 +2,7 @@
 use Rattle.std.specs.Prelude.{ℕ, zero, suc, ◌+◌, ◌*◌, ◌-◌, ◌/◌, ◌%◌, ◌^◌, ◌<◌, ◌≤◌, ◌≡◌, refl, Bool, true, false, cond, List, [], ◌∷◌, ◌++◌, ltb, ℤ, pos, negsuc, nat_abs, length, get_or, take, drop, replicate}
 use Rattle.std.proofs.Common.{sym, ◌∙◌, ap, ap₂, arith, length-drop, take-add, drop-drop, lt-ltb, le-ltb}
 use Rattle.std.proofs.Math.Nat.{pow-succ'}
+use Rattle.std.specs.Int.{w32, to_le_bytes, byte_at as byte_of}
 use Rattle.matching.specs.Definitions.Nodes.{Node}
 use Rattle.matching.proofs.Laws.Lists.{all_append}
 use Rattle.tables.specs.Definitions.Sizes.{capacity_size, byte_end, farthest, most, most_sort}
@@ -132,13 +133,32 @@ pub nat_two : (xs : List ℕ) (i : ℕ) → nat_at 2 xs i ≡ get_or xs i 0 + 25
 unfolding nat_at
 nat_two xs i = let e : suc i ≡ i + 1 = omega arith in omega (arith, ap (λ (j : ℕ). get_or xs j 0) e)
 
-pub nat_four : (xs : List ℕ) (i : ℕ) → nat_at 4 xs i ≡ nat_at 2 xs i + 65536 * nat_at 2 xs (i + 2)
+pub nat_four : (xs : List ℕ) (i : ℕ) → nat_at 4 xs i ≡ get_or xs i 0 + 256 * get_or xs (i + 1) 0 + 65536 * get_or xs (i + 2) 0 + 16777216 * get_or xs (i + 3) 0
 unfolding nat_at
-nat_four xs i = let e : suc (suc i) ≡ i + 2 = omega arith in omega (arith, ap (nat_at 2 xs) e)
+nat_four xs i =
+    let byte = λ (j : ℕ). get_or xs j 0 in
+    let one : suc i ≡ i + 1 = omega arith in
+    let two : suc (suc i) ≡ i + 2 = omega arith in
+    let three : suc (suc (suc i)) ≡ i + 3 = omega arith in
+    omega (arith, ap byte one, ap byte two, ap byte three)
 
-pub bytes_four : (n : ℕ) → nat_bytes 4 n ≡ nat_bytes 2 n ++ nat_bytes 2 (n / 65536)
+second : (n : ℕ) → byte_of 1 n ≡ n / 256 % 256
+second n = omega arith
+
+third : (n : ℕ) → byte_of 2 n ≡ n / 256 / 256 % 256
+third n = omega arith
+
+fourth : (n : ℕ) → byte_of 3 n ≡ n / 256 / 256 / 256 % 256
+fourth n = omega arith
+
+pub bytes_le : (w n : ℕ) → w ≤ 4 → take w (to_le_bytes w32 n) ≡ nat_bytes w n
 unfolding nat_bytes
-bytes_four n = let e : n / 256 / 256 ≡ n / 65536 = omega arith in ap (λ (m : ℕ). n % 256 ∷ n / 256 % 256 ∷ m % 256 ∷ m / 256 % 256 ∷ []) e
+bytes_le zero n h = refl
+bytes_le (suc zero) n h = refl
+bytes_le (suc (suc zero)) n h = ap (λ (b : ℕ). n % 256 ∷ b ∷ []) (second n)
+bytes_le (suc (suc (suc zero))) n h = ap₂ (λ (b c : ℕ). n % 256 ∷ b ∷ c ∷ []) (second n) (third n)
+bytes_le (suc (suc (suc (suc zero)))) n h = λ t. n % 256 ∷ second n t ∷ third n t ∷ fourth n t ∷ []
+bytes_le (suc (suc (suc (suc (suc w))))) n h = absurd (omega arith)
 
 -- Positions.
 pub signed-unsigned : (z : ℤ) → nat_abs z ≤ farthest → signed (unsigned z) ≡ z
@@ -158,11 +178,3 @@ unsigned_signed n h = go (ltb n 32768)
     go : (t : Bool) → unsigned (cond t (pos n) (negsuc (65535 - n))) ≡ n
     go true = refl
     go false = omega arith
-
-pub signed_low : (n : ℕ) → n < 32768 → signed n ≡ pos n
-unfolding signed
-signed_low n h = rw (lt-ltb n 32768 h)
-
-pub signed_high : (n : ℕ) → 32768 ≤ n → signed n ≡ negsuc (65535 - n)
-unfolding signed
-signed_high n h = rw (le-ltb n 32768 h)

@@ -1,21 +1,18 @@
 -- The nodes of a table where they lie: their count, and the row of one by its number.
-use Rattle.std.specs.Prelude.{ℕ, suc, ◌+◌, ◌*◌, ◌-◌, ◌<◌, ◌≤◌, ◌≡◌, ltb, length}
-use Rattle.std.proofs.Math.Path.{refl, sym, ap}
-use Rattle.std.proofs.Common.{◌∙◌, arith}
-use mathlib.Core.List.{List, []}
-use Rattle.std.proofs.Math.Nat.{zero-add}
-use borrow.Author.Tests.{eq-eqb, ne_eqb, lt-ltb}
+use Rattle.std.specs.Prelude.{ℕ, suc, ◌+◌, ◌*◌, ◌-◌, ◌<◌, ◌≤◌, ◌≡◌, refl, List, [], Option, Some, None, is_some, IfSome, length}
+use Rattle.std.proofs.Common.{sym, ◌∙◌, ap, zero-add, arith}
+use borrow.Author.Tests.{eq-eqb, ne_eqb}
 use Rattle.matching.specs.Definitions.Nodes.{Node, has, place, capacity_of}
 use Rattle.tables.specs.Definitions.Sizes.{node_size, node_rows}
 use Rattle.tables.specs.Definitions.Tables.{node_from, row_number, nodes_from, nodes_in}
 use Rattle.tables.specs.Laws.Nodes.{nodes_end, nodes_next, nodes_full}
 
--- Row r is that of the first node with the number n; it is the number of rows where no node has it.
-pub record RowOf (t : List ℕ) (n r : ℕ) : Type 0 where
-  pub within : r ≤ node_rows
-  pub known : has n (nodes_in t) ≡ ltb r node_rows
-  pub is : r < node_rows → r ≡ place n (nodes_in t)
-  pub capacity : r < node_rows → (node_from t (node_size * r)).capacity ≡ capacity_of (nodes_in t) n
+-- r is the row of the first node with the number n; it is none where no node has it.
+pub record RowOf (t : List ℕ) (n : ℕ) (r : Option ℕ) : Type 0 where
+  pub known : has n (nodes_in t) ≡ is_some r
+  pub within : IfSome r (λ k. k < node_rows)
+  pub is : IfSome r (λ k. k ≡ place n (nodes_in t))
+  pub capacity : IfSome r (λ k. (node_from t (node_size * k)).capacity ≡ capacity_of (nodes_in t) n)
 
 -- The nodes from row k on.
 abbrev later : List ℕ → ℕ → List Node
@@ -55,20 +52,15 @@ module _ (t : List ℕ) (n : ℕ) where
   sought_start = record { has_it = refl; at = sym (omega arith); capacity = refl }
 
   module _ (k : ℕ) (s : Sought t n k) where
-    missing : later t k ≡ [] → RowOf t n node_rows
+    missing : later t k ≡ [] → RowOf t n None
     unfolding has
-    missing e = record {
-      within = omega arith;
-      known = s.has_it ∙ ap (has n) e;
-      is = λ h. absurd (omega arith);
-      capacity = λ h. absurd (omega arith);
-    }
+    missing e = record { known = s.has_it ∙ ap (has n) e; within = tt; is = tt; capacity = tt }
 
-    pub sought_end : k < node_rows → row_number t k ≡ 0 → RowOf t n node_rows
+    pub sought_end : k < node_rows → row_number t k ≡ 0 → RowOf t n None
     sought_end h e = missing (nodes_end t k h e)
 
-    pub sought_full : node_rows ≤ k → k ≤ node_rows → RowOf t n k
-    sought_full h g = let e : node_rows ≡ k = omega arith in rw e at (missing (nodes_full t k h))
+    pub sought_full : node_rows ≤ k → RowOf t n None
+    sought_full h = missing (nodes_full t k h)
 
     module _ (h : k < node_rows) (e : row_number t k ≡ 0 → ⊥) where
       first_place : row_number t k ≡ n → place n (later t k) ≡ 0
@@ -79,13 +71,13 @@ module _ (t : List ℕ) (n : ℕ) where
       unfolding place node_from row_number
       later-place d = ap (place n) (nodes_next t k h e) ∙ rw (ne_eqb (row_number t k) n d)
 
-      pub sought_here : row_number t k ≡ n → RowOf t n k
+      pub sought_here : row_number t k ≡ n → RowOf t n (Some k)
       unfolding has place capacity_of node_from row_number
       sought_here d = record {
-        within = omega arith;
-        known = s.has_it ∙ ap (has n) (nodes_next t k h e) ∙ rw (eq-eqb (row_number t k) n d, lt-ltb k node_rows h);
-        is = λ l. omega (arith, s.at, first_place d);
-        capacity = λ l. sym (s.capacity ∙ ap (λ (A : List Node). capacity_of A n) (nodes_next t k h e) ∙ rw (eq-eqb (row_number t k) n d));
+        known = s.has_it ∙ ap (has n) (nodes_next t k h e) ∙ rw (eq-eqb (row_number t k) n d);
+        within = h;
+        is = omega (arith, s.at, first_place d);
+        capacity = sym (s.capacity ∙ ap (λ (A : List Node). capacity_of A n) (nodes_next t k h e) ∙ rw (eq-eqb (row_number t k) n d));
       }
 
       pub sought_more : (row_number t k ≡ n → ⊥) → Sought t n (k + 1)

@@ -1,7 +1,6 @@
 -- Laws of rows and searches.
-use Rattle.std.specs.Prelude.{ℕ, zero, suc, ◌+◌, ◌*◌, ◌-◌, ◌<◌, ◌≤◌, ◌≡◌, refl, Bool, true, false, cond, ◌||◌, List, [], ◌∷◌, ◌++◌, length, take, drop, set, replicate}
+use Rattle.std.specs.Prelude.{ℕ, zero, suc, ◌+◌, ◌*◌, ◌-◌, ◌<◌, ◌≤◌, ◌≡◌, refl, Bool, true, false, cond, ◌||◌, List, [], ◌∷◌, ◌++◌, Some, None, length, take, drop, set, replicate}
 use Rattle.std.proofs.Common.{sym, ◌∙◌, ap, ap₂, append_assoc, mul-suc, arith, take-append-drop, length-append, length-take, length-drop, length-set, drop-set-lt, take-suc-set}
-use Rattle.std.proofs.Math.Option.{none, some}
 use Rattle.std.proofs.Math.Decide.{ℕ_discrete}
 use Rattle.std.proofs.Math.Seq.{take-append-add, drop-append-add}
 pub use Rattle.matching.proofs.Laws.Common.{and_split}
@@ -12,18 +11,18 @@ or_split true t e = absurd (let z : ◌≡◌ {A = ℕ} 0 1 = cc in omega arith)
 or_split false t e = (refl, e)
 
 -- The first place of a search: none,
-pub none_from : (p : ℕ → Bool) (n k j : ℕ) → first_from p k n ≡ none → k ≤ j → j < k + n → p j ≡ false
+pub none_from : (p : ℕ → Bool) (n k j : ℕ) → first_from p k n ≡ None → k ≤ j → j < k + n → p j ≡ false
 unfolding first_from
 none_from p zero k j e h g = absurd (omega arith)
 none_from p (suc n) k j e h g = go (p k) refl (ℕ_discrete k j) e (none_from p n (suc k) j)
   where
-    go : (t : Bool) → p k ≡ t → Dec (k ≡ j) → cond t (some k) (first_from p (suc k) n) ≡ none
-        → (first_from p (suc k) n ≡ none → suc k ≤ j → j < suc k + n → p j ≡ false) → p j ≡ false
+    go : (t : Bool) → p k ≡ t → Dec (k ≡ j) → cond t (Some k) (first_from p (suc k) n) ≡ None
+        → (first_from p (suc k) n ≡ None → suc k ≤ j → j < suc k + n → p j ≡ false) → p j ≡ false
     go true i d e r = let z : ◌≡◌ {A = ℕ} 0 1 = cc in absurd (omega arith)
     go false i (yes d) e r = rw (← d) i
     go false i (no d) e r = r e (omega arith) (omega arith)
 
-pub from_none : (p : ℕ → Bool) (n k : ℕ) → ((j : ℕ) → k ≤ j → j < k + n → p j ≡ false) → first_from p k n ≡ none
+pub from_none : (p : ℕ → Bool) (n k : ℕ) → ((j : ℕ) → k ≤ j → j < k + n → p j ≡ false) → first_from p k n ≡ None
 unfolding first_from
 from_none p zero k h = refl
 from_none p (suc n) k h = rw (h k (omega arith) (omega arith)) (from_none p n (suc k) (λ j g l. h j (omega arith) (omega arith)))
@@ -35,22 +34,22 @@ pub record First (p : ℕ → Bool) (k n j : ℕ) : Type 0 where
   pub here : p j ≡ true
   pub ahead : (i : ℕ) → k ≤ i → i < j → p i ≡ false
 
-pub first_is : (p : ℕ → Bool) (n k j : ℕ) → First p k n j → first_from p k n ≡ some j
+pub first_is : (p : ℕ → Bool) (n k j : ℕ) → First p k n j → first_from p k n ≡ Some j
 unfolding first_from
 first_is p zero k j f = absurd (omega (arith, f.from, f.low))
 first_is p (suc n) k j f = go (ℕ_discrete k j) (first_is p n (suc k) j)
   where
-    go : Dec (k ≡ j) → (First p (suc k) n j → first_from p (suc k) n ≡ some j) → cond (p k) (some k) (first_from p (suc k) n) ≡ some j
+    go : Dec (k ≡ j) → (First p (suc k) n j → first_from p (suc k) n ≡ Some j) → cond (p k) (Some k) (first_from p (suc k) n) ≡ Some j
     go (yes d) r = rw (d, f.here)
     go (no d) r = rw (f.ahead k (omega arith) (omega (arith, f.from)))
         (r (record { from = omega (arith, f.from); low = omega (arith, f.low); here = f.here; ahead = λ i a b. f.ahead i (omega arith) b }))
 
-pub some_from : (p : ℕ → Bool) (n k j : ℕ) → first_from p k n ≡ some j → First p k n j
+pub some_from : (p : ℕ → Bool) (n k j : ℕ) → first_from p k n ≡ Some j → First p k n j
 unfolding first_from
 some_from p zero k j e = absurd (let z : ◌≡◌ {A = ℕ} 0 1 = cc in omega arith)
 some_from p (suc n) k j e = go (p k) refl e (some_from p n (suc k) j)
   where
-    go : (t : Bool) → p k ≡ t → cond t (some k) (first_from p (suc k) n) ≡ some j → (first_from p (suc k) n ≡ some j → First p (suc k) n j) → First p k (suc n) j
+    go : (t : Bool) → p k ≡ t → cond t (Some k) (first_from p (suc k) n) ≡ Some j → (first_from p (suc k) n ≡ Some j → First p (suc k) n j) → First p k (suc n) j
     go true i e r = let g : k ≡ j = cc in record { from = omega arith; low = omega arith; here = rw (← g) i; ahead = λ m a b. absurd (omega arith) }
     go false i e r =
         let f = r e in
@@ -152,14 +151,3 @@ put-put (x ∷ u) v xs i h =
   where
     rows : i + suc (length u) ≡ suc i + length u
     rows = omega arith
-
--- Two bytes stored are two bytes put.
-pub put_two : (xs : List ℕ) (i u v : ℕ) → i + 2 ≤ length xs → set (set xs i u) (i + 1) v ≡ put xs i (u ∷ v ∷ [])
-put_two xs i u v h =
-    ap (λ (j : ℕ). set (set xs i u) j v) one
-    ∙ sym (put_none (set (set xs i u) (suc i) v) (suc (suc i)))
-    ∙ sym (put_cons (set xs i u) (suc i) v [] (rw (length-set xs i u) (omega arith)))
-    ∙ sym (put_cons xs i u (v ∷ []) (omega arith))
-  where
-    one : i + 1 ≡ suc i
-    one = omega arith

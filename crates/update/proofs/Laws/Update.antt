@@ -8,20 +8,20 @@ use lib.IntN.{ℤ}
 use lib.ListN.{length}
 use Rattle.matching.specs.declared.Range.{Range}
 use Rattle.matching.specs.declared.Spans.{Spans}
-use Rattle.matching.specs.declared.Sorts.{Sorts}
+use Rattle.matching.specs.Definitions.Rows.{Sorts, range, size, spans_of, On, Spanned, node_in, nodes_on}
 use Rattle.matching.specs.Definitions.Lists.{Reordered}
-use Rattle.matching.specs.Definitions.Nodes.{Master, master_a, master_b, other, each, of_sort}
+use Rattle.matching.specs.declared.Master.{Master}
+use Rattle.matching.specs.declared.Master.TheVariants.{A as master_a, B as master_b}
+use Rattle.matching.specs.Definitions.Nodes.{other, each, of_sort}
 use Rattle.matching.specs.Definitions.Columns.{tabulate}
-use Rattle.matching.specs.Definitions.Rows.{range, size, spans_of, On, Spanned, node_in, nodes_on}
-use Rattle.matching.specs.Definitions.Sizes.{half, node_rows, link_rows, set_rows}
+use Rattle.matching.specs.Definitions.Sizes.{half, node_rows, set_rows}
 use Rattle.matching.proofs.Laws.Columns.{tabulate-length, tabulate_cong}
 use Rattle.matching.proofs.Laws.Reordered.{reordered_length}
 use Rattle.tables.specs.Definitions.Sizes.{table_size}
 use Rattle.tables.specs.Definitions.Tables.{nodes_in}
 use Rattle.tables.specs.Definitions.Edits.{master_of, number_of}
 use Rattle.stability.specs.Barred.{Patched, fresh, moved, barred_patched}
-use Rattle.load.specs.declared.table.Rows.{Rows}
-use Rattle.load.specs.Load.{rows_of, InSet}
+use Rattle.load.specs.Load.{Rows, rows_of, InSet}
 use Rattle.load.specs.Laws.Parts.{part_length}
 use Rattle.load.specs.Laws.Loaded.{rows_in}
 use Rattle.load.specs.Laws.Represents.{rows_represent}
@@ -274,5 +274,5 @@ module _ {a b e ns : List ℕ} {at : List (List ℤ)} {cs : List ℕ} {S : Sorts
         own zero k h = sort 0 (omega arith) k h
         own (suc u) k h = again u k (sort 1 (omega arith) k (rw (own_range S r m 1) (rw (own_range S r m (suc u)) at h)))
 
-    pub updated : {P : List (List ℕ)} → length P ≡ link_rows → Updated a b ns' at' cs' S' L' P
-    updated p = record { rows = rows_represent in_set o.good; barred = barred_patched o.barred c.limits patches; places = p }
+    pub updated : Updated a b ns' at' cs' S' L'
+    updated = record { rows = rows_represent in_set o.good; barred = barred_patched o.barred c.limits patches }

@@ -7,9 +7,8 @@ use lib.ListN.{length, get_or, set}
 use lib.Seq.{get_or-set_same, get_or-set_other}
 use Rattle.matching.specs.declared.Range.{Range}
 use Rattle.matching.specs.declared.Spans.{Spans}
-use Rattle.matching.specs.declared.Sorts.{Sorts}
-use Rattle.matching.specs.Definitions.Nodes.{Master}
-use Rattle.matching.specs.Definitions.Rows.{across, upward, range, spans_of, On, node_in}
+use Rattle.matching.specs.Definitions.Rows.{Sorts, across, upward, range, spans_of, On, node_in}
+use Rattle.matching.specs.declared.Master.{Master}
 use Rattle.stability.specs.Barred.{Patched, fresh, moved}
 use Rattle.load.specs.Load.{Written}
 use Rattle.load.specs.Laws.Decode.{written_apart}

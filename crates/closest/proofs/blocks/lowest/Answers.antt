@@ -19,10 +19,10 @@ least_on ns first k n r l h e q a b = go (ℕ_discrete q k)
     go (no d) = (omega (arith, (l q a (omega arith)).0), (l q a (omega arith)).1)
 
 pub loop-k-init : goal.loop-k-init
-loop-k-init c = (omega arith, omega arith, λ q a b. first_least c.args.ns.now c.args.first q (omega arith) (omega (arith, c.type_inv.ns c.args.first)))
+loop-k-init c = λ q a b. first_least c.args.ns.now c.args.first q (omega arith) (omega (arith, c.type_inv.ns c.args.first))
 
 pub loop-k-preserved : goal.loop-k-preserved
-loop-k-preserved c = let l = c.loop-k in (omega arith, omega arith, least_on c.args.ns.now c.args.first l.k l.n _ l.invariant.2 (omega (arith, c.type_inv.ns l.k)) c.lesser-n.ensures)
+loop-k-preserved c = let l = c.loop-k in least_on c.args.ns.now c.args.first l.k l.n _ l.invariant (omega (arith, c.type_inv.ns l.k)) c.min-n.ensures
 
 pub returns : goal.returns
-returns c = λ q a b. c.loop-k.invariant.2 q a (omega arith)
+returns c = let l = c.loop-k in λ q a b. l.invariant q a (omega (arith, l.auto.k-end))

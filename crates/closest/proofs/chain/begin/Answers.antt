@@ -5,6 +5,7 @@ use native.Mathlib.Decide.{ℕ_discrete}
 use native.Mathlib.Omega.{arith}
 use Rattle.matching.specs.declared.Range.{Range}
 use Rattle.closest.specs.Blocks.{start, Block, end_of}
+use Rattle.closest.proofs.Laws.Spans.{counted_out}
 use Rattle.closest.proofs.chain.begin.Goals as goal
 
 none-on : (E : List (List ℕ)) (r : Range) (b : ℕ) → ((k : ℕ) → Block r k → k < b → end_of E k ≤ start k) → end_of E b ≤ start b → (k : ℕ) → Block r k → k < b + 1 → end_of E k ≤ start k
@@ -15,13 +16,10 @@ none-on E r b f g k h l = go (ℕ_discrete k b)
     go (no d) = f k h (omega arith)
 
 pub loop-b-init : goal.loop-b-init
-loop-b-init c = (omega arith, omega arith, λ k h l. absurd (omega arith))
-
-pub returns-then-first-index : goal.returns-then-first-index
-returns-then-first-index c = record { number = c.loop-b.b; block = (c.loop-b.invariant.1, c.loop-b-test.true); some = omega (arith, c.index.ensures); is = c.index-then-first-index.ensures }
+loop-b-init c = λ k h l. absurd (omega (arith, c.requires.0.begins))
 
 pub loop-b-preserved : goal.loop-b-preserved
-loop-b-preserved c = let l = c.loop-b in (omega arith, omega arith, none-on c.args.ends.now c.args.r l.b l.invariant.2 (omega (arith, c.index.ensures)))
+loop-b-preserved c = none-on c.args.blocks.now.ends c.args.r c.loop-b.b c.loop-b.invariant c.if-first-blocks.false
 
 pub returns : goal.returns
-returns c = λ k h. c.loop-b.invariant.2 k h (omega arith)
+returns c = λ k h. c.loop-b.invariant k h (omega (arith, counted_out c.requires.0 c.div_ceil-b-end.ensures c.loop-b-test.false))

@@ -7,6 +7,6 @@ pub returns-then-t-lt-HALF : goal.returns-then-t-lt-HALF
 unfolding sides
 returns-then-t-lt-HALF c = rw (lt-ltb _ _ c.if-t-lt-HALF.true)
 
-pub returns : goal.returns
+pub returns-else-t-lt-HALF : goal.returns-else-t-lt-HALF
 unfolding sides
-returns c = rw (le-ltb _ _ c.if-t-lt-HALF.false)
+returns-else-t-lt-HALF c = rw (le-ltb _ _ c.if-t-lt-HALF.false)

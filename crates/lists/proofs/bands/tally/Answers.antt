@@ -1,28 +1,20 @@
-use Prim.Native.Nat.{ℕ}
-use mathlib.Core.Path.{◌∙◌, sym, ap}
-use native.Mathlib.Omega.{arith}
-use lib.ListN.{length, length-replicate}
-use Rattle.tables.specs.Definitions.Sizes.{band_count}
-use Rattle.lists.proofs.Laws.Bands.{count_start, count_most, count_more, count_end}
+use Rattle.std.proofs.Common.{arith}
+use Rattle.tables.specs.Laws.Bands.{tally_start, tally_most, tally_turn, tally_end}
+use Rattle.lists.proofs.Laws.Rows.{rest_more, rest_end}
+use Rattle.lists.proofs.Laws.Bands.{distances-length}
 use Rattle.lists.proofs.bands.tally.Goals as goal
 
-pub loop-i-init : goal.loop-i-init
-loop-i-init c = (omega arith, rw c.requires.1 (count_start _ _))
+pub loop-link-init : goal.loop-link-init
+loop-link-init c = rw c.requires.1 (tally_start _)
 
 pub overflow_add-found : goal.overflow_add-found
 overflow_add-found c =
     let x = c.args in
-    omega (arith, count_most x.links.now x.n c.loop-i.found c.loop-i.i c.band-k.result c.loop-i.invariant.1 (omega arith))
+    omega (arith, tally_most c.loop-link.invariant c.band.result (omega arith), distances-length x.links.now)
 
-pub loop-i-preserved : goal.loop-i-preserved
-loop-i-preserved c =
-    let x = c.args in
-    (omega arith, count_more x.links.now x.n c.loop-i.found c.loop-i.i _ c.loop-i-test.true c.loop-i.invariant.1 c.band-k.ensures.0 (omega arith))
-
-pub shape_of-found : goal.shape_of-found
-shape_of-found c = c.loop-i.invariant.1.size ∙ sym (ap length c.requires.1 ∙ length-replicate {A = ℕ} band_count 0)
+pub loop-link-preserved : goal.loop-link-preserved
+loop-link-preserved c =
+    tally_turn (rw (rest_more c.args.links.now c.loop-link.link-index (omega arith)) at c.loop-link.invariant) c.band.ensures.0 (omega arith)
 
 pub returns : goal.returns
-returns c =
-    let x = c.args in
-    count_end x.links.now x.n c.loop-i.found c.loop-i.i c.loop-i-test.false c.loop-i.invariant.1
+returns c = tally_end (rw (rest_end c.args.links.now c.loop-link.link-index (omega arith)) at c.loop-link.invariant)

@@ -1,10 +1,8 @@
--- The counts so far and those of the links to come make the whole.
-use Prim.Native.Nat.{◌≤◌, ◌-◌}
-use Rattle.lists.proofs.Laws.Bands.{Counted}
+-- The counts so far and those of the later links make the whole.
+use Rattle.std.proofs.Common.{drop}
+use Rattle.tables.specs.Laws.Bands.{Tally}
+use Rattle.lists.specs.Lists.{distances, links_of}
 use Rattle.lists.proofs.bands.tally.Given as goal
 
-abbrev pub invariant-loop-i : goal.invariant-loop-i
-invariant-loop-i l = (l.i ≤ l.n) × Counted l.links l.n l.found l.i
-
-abbrev pub decreases-loop-i : goal.decreases-loop-i
-decreases-loop-i l = l.n - l.i
+abbrev pub invariant-loop-link : goal.invariant-loop-link
+invariant-loop-link l = Tally l.found (distances (links_of (drop l.link-index l.links))) (distances (links_of l.links))

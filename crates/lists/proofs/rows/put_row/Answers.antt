@@ -13,8 +13,8 @@ pub returns : goal.returns
 returns c =
     let at = c.args.at in
     let l = link_of c.args.link in
-    c.put_two.ensures
-    ∙ ap (λ (s : List ℕ). put s (at + link_amount) (nat_bytes amount_size l.amount)) (c.put_four.ensures
-    ∙ ap (λ (s : List ℕ). put s (at + link_distance) (nat_bytes distance_size l.distance)) (c.put_number-2.ensures
-    ∙ ap (λ (s : List ℕ). put s (at + link_b) (nat_bytes number_size l.b)) c.put_number.ensures))
+    c.put_nat-4.ensures
+    ∙ ap (λ (s : List ℕ). put s (at + link_amount) (nat_bytes amount_size l.amount)) (c.put_nat-3.ensures
+    ∙ ap (λ (s : List ℕ). put s (at + link_distance) (nat_bytes distance_size l.distance)) (c.put_nat-2.ensures
+    ∙ ap (λ (s : List ℕ). put s (at + link_b) (nat_bytes number_size l.b)) c.put_nat.ensures))
     ∙ link_put c.args.part.now at l c.requires

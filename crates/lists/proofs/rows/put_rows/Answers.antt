@@ -1,33 +1,26 @@
-use Prim.Native.Nat.{ℕ, ◌*◌, ◌-◌}
-use mathlib.Core.Path.{◌≡◌, refl, ◌∙◌, ap}
-use native.Mathlib.Omega.{arith}
-use Rattle.matching.specs.Definitions.Rows.{link_in}
+use Rattle.std.proofs.Common.{◌≡◌, ◌*◌, ◌∙◌, [], length, sym, arith}
+use Rattle.std.proofs.Math.ListN.{get_or-map}
+use Rattle.std.proofs.lemmas.List.{length-map}
+use Rattle.matching.specs.Definitions.Rows.{link_of}
 use Rattle.tables.specs.Definitions.Sizes.{link_size}
-use Rattle.tables.specs.Definitions.Rows.{put}
-use Rattle.tables.proofs.Laws.ListCode.{rows_from, row_more, rows_done}
+use Rattle.tables.specs.Definitions.Lists.{link_bytes}
+use Rattle.tables.specs.Laws.Lists.{link_length}
+use Rattle.tables.proofs.Laws.Puts.{row_turn, row_end}
+use Rattle.lists.specs.Lists.{links_of}
 use Rattle.lists.proofs.rows.put_rows.Goals as goal
-
-pub loop-k-init : goal.loop-k-init
-loop-k-init c =
-    let x = c.args in
-    let z : link_size * (x.from - x.from) ≡ 0 = omega arith in
-    (refl, omega arith, omega arith, ap (λ (i : ℕ). put x.part.now i (rows_from (link_in x.links.now) x.from x.n x.from)) z)
 
 pub loop-k-preserved : goal.loop-k-preserved
 loop-k-preserved c =
     let l = c.loop-k in
-    let x = c.args in (
+    let L = c.args.links.now in
+    let long : length (links_of L) ≡ length L = length-map L link_of in (
       c.put_row.auto.part ∙ l.invariant.0,
-      omega arith,
-      omega arith,
-      row_more (link_in x.links.now) x.from x.n l.part _ _ l.k l.invariant.1 c.loop-k-test.true (omega arith) c.put_row.ensures l.invariant.3,
+      rw (c.put_row.ensures, ← get_or-map link_of L l.k []) (row_turn link_bytes link_size link_length l.part (links_of L) l.k (link_of []) (omega arith) (omega arith)) ∙ l.invariant.1,
     )
-
-pub shape_of-part : goal.shape_of-part
-shape_of-part c = c.loop-k.invariant.0
 
 pub returns : goal.returns
 returns c =
     let l = c.loop-k in
-    let x = c.args in
-    rows_done (link_in x.links.now) x.from x.n l.part _ l.k c.loop-k-test.false l.invariant.3
+    let L = c.args.links.now in
+    let long : length (links_of L) ≡ length L = length-map L link_of in
+    sym (row_end link_bytes link_size link_length l.part (links_of L) (link_size * l.k) l.k (omega arith)) ∙ l.invariant.1

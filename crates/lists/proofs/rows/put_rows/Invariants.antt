@@ -1,19 +1,12 @@
--- The rows still to be put are those from k on.
-use Prim.Native.Nat.{◌*◌, ◌-◌, ◌≤◌}
-use mathlib.Core.Path.{◌≡◌}
-use lib.ListN.{length}
-use Rattle.matching.specs.Definitions.Rows.{link_in}
+-- With the later rows put behind those that stand, it is the whole.
+use Rattle.std.proofs.Common.{◌≡◌, ◌*◌, length, drop}
 use Rattle.tables.specs.Definitions.Sizes.{link_size}
-use Rattle.tables.specs.Definitions.Rows.{put}
-use Rattle.tables.proofs.Laws.ListCode.{rows_from}
+use Rattle.tables.specs.Definitions.Lists.{link_bytes}
+use Rattle.tables.specs.Definitions.Rows.{flat, put}
+use Rattle.lists.specs.Lists.{links_of}
 use Rattle.lists.proofs.rows.put_rows.Given as goal
 
 abbrev pub invariant-loop-k : goal.invariant-loop-k
 invariant-loop-k l =
-    (length l.part ≡ length l.initial.part)
-    × (l.from ≤ l.k)
-    × (l.k ≤ l.n)
-    × (put l.part (link_size * (l.k - l.from)) (rows_from (link_in l.links) l.from l.n l.k) ≡ put l.initial.part 0 (rows_from (link_in l.links) l.from l.n l.from))
-
-abbrev pub decreases-loop-k : goal.decreases-loop-k
-decreases-loop-k l = l.n - l.k
+    (length l.part ≡ length l.fn.part)
+    × (put l.part (link_size * l.k) (flat link_bytes (drop l.k (links_of l.links))) ≡ put l.fn.part 0 (flat link_bytes (links_of l.links)))

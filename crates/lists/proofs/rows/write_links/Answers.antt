@@ -1,13 +1,12 @@
 -- The rows, and the zeros behind them.
-use mathlib.Core.Path.{◌∙◌}
-use Rattle.matching.specs.Definitions.Rows.{link_in, links_in}
-use Rattle.tables.proofs.Laws.ListCode.{rows_zeros}
+use Rattle.std.proofs.Common.{◌-◌, length, drop, take_all, length-drop, arith}
+use Rattle.lists.proofs.Laws.Rows.{tail_zeros}
 use Rattle.lists.proofs.rows.write_links.Goals as goal
 
 pub returns : goal.returns
-unfolding links_in
 returns c =
     let x = c.args in
+    let L = x.links.now in
     let q = c.requires in
-    c.put_zeros.ensures
-    ∙ rows_zeros (link_in x.links.now) x.from x.n x.part.now _ q.1 q.2.most q.0 c.put_rows.auto.part c.put_rows.ensures
+    tail_zeros L _ x.from x.part.now _ _ (take_all (length L - x.from) (drop x.from L) (omega (arith, length-drop x.from L))) q.1 q.2 q.0
+    c.put_rows.auto.part c.put_rows.ensures (c.fill.ensures.after (λ y e. e))

@@ -1,19 +1,18 @@
-use native.Mathlib.Omega.{arith}
-use Rattle.lists.proofs.Laws.Rows.{rest_all, used_more, used_end}
+use Rattle.std.proofs.Common.{sym, ◌∙◌, arith}
+use Rattle.lists.proofs.Laws.Rows.{used_its, used_other, used_end}
+use Rattle.lists.proofs.spare.spare.Goals.{then-number_in-number, else-number_in-number}
 use Rattle.lists.proofs.spare.spare.Goals as goal
 
-pub loop-i-init : goal.loop-i-init
-loop-i-init c =
+pub loop-link-preserved : goal.loop-link-preserved
+loop-link-preserved c =
     let x = c.args in
-    (omega arith, rw (rest_all x.links.now x.n))
-
-pub loop-i-preserved : goal.loop-i-preserved
-loop-i-preserved c =
-    let x = c.args in
-    let more = used_more x.links.now x.n x.side x.number c.loop-i.i c.loop-i-test.true (omega arith) in
-    (omega arith, omega (arith, more, c.less-left.ensures, c.loop-i.invariant.1))
+    let i = c.loop-link.link-index in
+    elim c.if-number_in-number.branch [
+      | then-number_in-number w ↦ omega (arith, used_its x.links.now x.master x.number i (omega arith) (sym c.number_in.ensures ∙ w.if-number_in-number.true))
+      | else-number_in-number w ↦ omega (arith, used_other x.links.now x.master x.number i (omega arith) (λ e. w.if-number_in-number.false (c.number_in.ensures ∙ e)))
+    ]
 
 pub returns : goal.returns
 returns c =
     let x = c.args in
-    omega (arith, used_end x.links.now x.n x.side x.number c.loop-i.i c.loop-i-test.false)
+    omega (arith, used_end x.links.now x.master x.number c.loop-link.link-index (omega arith))

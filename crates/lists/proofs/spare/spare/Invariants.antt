@@ -1,14 +1,8 @@
--- What is left less what the links from row i on use is the answer.
-use Prim.Native.Nat.{◌≤◌, ◌-◌}
-use mathlib.Core.Path.{◌≡◌}
+-- What is left less what the later links use is the answer.
+use Rattle.std.proofs.Common.{◌≡◌, ◌-◌, drop}
 use Rattle.matching.specs.Definitions.Links.{used}
-use Rattle.matching.specs.Definitions.Rows.{links_in}
-use Rattle.lists.proofs.Laws.Rows.{rest, master}
+use Rattle.lists.specs.Lists.{links_of}
 use Rattle.lists.proofs.spare.spare.Given as goal
 
-abbrev pub invariant-loop-i : goal.invariant-loop-i
-invariant-loop-i l =
-    (l.i ≤ l.n) × (l.left - used (master l.side) (rest l.links l.n l.i) l.number ≡ l.capacity - used (master l.side) (links_in l.links l.n) l.number)
-
-abbrev pub decreases-loop-i : goal.decreases-loop-i
-decreases-loop-i l = l.n - l.i
+abbrev pub invariant-loop-link : goal.invariant-loop-link
+invariant-loop-link l = l.left - used l.master (links_of (drop l.link-index l.links)) l.number ≡ l.capacity - used l.master (links_of l.links) l.number

@@ -15,5 +15,5 @@ enter-i-requires c = let p = c.requires in (p.0, c.loop-k-test.true, progress_ro
 pub loop-k-preserved : goal.loop-k-preserved
 loop-k-preserved c = progress_more c.loop-k.invariant (progress_room c.loop-k.invariant c.requires.1) c.loop-k-test.true (λ e. c.if-row_number-eq0.false (c.row_number.ensures ∙ e)) c.enter-i.ensures.0 c.enter-i.ensures.1
 
-pub returns : goal.returns
-returns c = progress_full c.loop-k.invariant c.loop-k-test.false
+pub returns-after-loop-k : goal.returns-after-loop-k
+returns-after-loop-k c = progress_full c.loop-k.invariant c.loop-k-test.false

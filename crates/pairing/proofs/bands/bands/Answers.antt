@@ -1,36 +1,28 @@
 -- The verdict's answer, or the counts of the links' distances.
-use mathlib.Core.Path.{refl}
+use mathlib.Core.Path.{refl, ◌∙◌, ap}
+use native.Mathlib.Omega.{arith}
 use borrow.Author.Tests.{eq-eqb, ne_eqb}
+use Rattle.std.proofs.lemmas.Result.{err_from_is_err_and}
+use Rattle.tables.specs.Definitions.Bands.{band_bytes}
+use Rattle.lists.proofs.Laws.Rows.{links_taken}
 use Rattle.contract.specs.declared.Refusal.TheVariants.{Unfinished}
 use Rattle.contract.specs.Definitions.Requests.{bands}
 use Rattle.contract.proofs.Laws.Places.{tried}
-use Rattle.pairing.specs.Verdicts.{Finished}
-use Rattle.pairing.specs.Laws.Verdicts.{list_links}
 use Rattle.pairing.specs.Laws.Calls.{own_call, list-call, bands_call_lem}
-use Rattle.verdicts.proofs.Laws.Answers.{is_refused}
 use Rattle.pairing.proofs.bands.bands.Goals as goal
-use Rattle.pairing.proofs.bands.bands.Goals.{In-Done}
-
--- The list is finished, and the rows have its links.
-found : (c : In-Done) →
-    let x = c.args in
-    Finished x.a.now x.b.now x.list.now c.judge_all-answer.new.links c.in-Done.n
-found c =
-    let x = c.args in
-    list_links x.a.now x.b.now x.list.now _ c.judge_all-answer.result c.judge_all-answer.ensures _ c.in-Done.is
 
 pub returns-then-counts-ne-COUNTS : goal.returns-then-counts-ne-COUNTS
-returns-then-counts-ne-COUNTS c = let x = c.args in own_call (bands x.counts.now) x.a.now x.b.now x.list.now (ne_eqb _ _ c.if-counts-ne-COUNTS.true)
+returns-then-counts-ne-COUNTS c = let x = c.args in rw c.into.ensures (own_call (bands x.counts.now) x.a.now x.b.now x.list.now (ne_eqb _ _ c.if-counts-ne-COUNTS.true))
 
-pub count_bands-requires : goal.count_bands-requires
-count_bands-requires c = let f = found (goal.at.count_bands-requires c).In-Done in (record { most = f.joined.most; room = f.joined.room }, c.if-counts-ne-COUNTS.false)
-
-pub returns-in-Done : goal.returns-in-Done
-returns-in-Done c =
+pub returns-in_err-judge_all : goal.returns-in_err-judge_all
+returns-in_err-judge_all c =
     let x = c.args in
-    bands_call_lem x.a.now x.b.now x.list.now _ _ (found (goal.at.returns-in-Done c).In-Done) x.counts.now _ (eq-eqb _ _ c.if-counts-ne-COUNTS.false) c.count_bands.ensures
+    let p = err_from_is_err_and c.from_residual.result c.from_residual.ensures.1 in
+    rw (p.1, p.2) (list-call (bands x.counts.now) x.a.now x.b.now x.list.now _ _ c.in_err-judge_all.ensures refl (eq-eqb _ _ c.if-counts-ne-COUNTS.false) (tried _ _ Unfinished refl refl))
 
-pub returns-in_default : goal.returns-in_default
-returns-in_default c =
+pub returns : goal.returns
+returns c =
     let x = c.args in
-    list-call (bands x.counts.now) x.a.now x.b.now x.list.now _ c.judge_all-answer.result (is_refused _ c.in_default.not-Done) c.judge_all-answer.ensures refl (eq-eqb _ _ c.if-counts-ne-COUNTS.false) (tried _ _ Unfinished refl refl)
+    let f = c.in_ok-judge_all.ensures in
+    bands_call_lem x.a.now x.b.now x.list.now _ _ f x.counts.now _ (eq-eqb _ _ c.if-counts-ne-COUNTS.false)
+    (c.count_bands.ensures ∙ rw c.from-n.ensures (ap band_bytes (links_taken c.judge_all.new.links _ (omega (arith, f.joined.most, f.joined.room)))))

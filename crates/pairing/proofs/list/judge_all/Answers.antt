@@ -1,62 +1,45 @@
--- The lengths, the tables, and the list beside them.
-use Prim.Native.Nat.{ℕ}
-use mathlib.Core.Path.{refl, sym, ◌∙◌, ap}
-use mathlib.Core.List.{List, [], ◌∷◌}
-use lib.ListN.{length-replicate}
-use Rattle.matching.specs.Definitions.Nodes.{master_a, master_b}
+-- The verdict on the tables, and the list beside them.
+use mathlib.Core.Path.{refl, ◌∙◌, ap}
+use mathlib.Core.List.{List}
+use Rattle.std.proofs.lemmas.Result.{err_from_is_err_and}
+use Rattle.matching.specs.Definitions.Rows.{Represents}
 use Rattle.matching.specs.Definitions.Links.{Link}
+use Rattle.tables.specs.Definitions.Tables.{nodes_in}
 use Rattle.tables.specs.Laws.ListRead.{bytes_known}
-use Rattle.contract.specs.declared.Answer.TheVariants.{Refused}
-use Rattle.contract.specs.declared.Refusal.TheVariants.{Length}
-use Rattle.load.specs.Laws.Represents.{loaded_named}
 use Rattle.verdicts.specs.Lists.{list_answer}
-use Rattle.pairing.specs.Laws.Verdicts.{tables_length, tables_judged, list_refused, set_beside, set_links, set_joined, list_judged}
-use Rattle.pairing.specs.Laws.Sets.{no_limits, both_sound, list_size_lem, sound_represents}
-use Rattle.pairing.proofs.Laws.Begin.{may_load, may_judge}
-use Rattle.verdicts.proofs.Laws.Answers.{is_done, is_refused}
+use Rattle.pairing.specs.Laws.Verdicts.{list_refused, set_beside, set_links, set_joined, list_judged}
+use Rattle.pairing.specs.Laws.Sets.{no_limits, sound_represents}
 use Rattle.pairing.proofs.list.judge_all.Goals as goal
+use Rattle.pairing.proofs.list.judge_all.Goals.{In_ok-sorts}
 
-pub returns-then-not-lengths_right : goal.returns-then-not-lengths_right
-returns-then-not-lengths_right c =
+pub returns-in_err-sorts : goal.returns-in_err-sorts
+returns-in_err-sorts c =
+    let p = err_from_is_err_and c.from_residual.result c.from_residual.ensures.1 in
+    rw (p.1, p.2) (list_refused c.in_err-sorts.ensures)
+
+-- The set has the nodes of the tables.
+represents : (c : In_ok-sorts) → let x = c.args in let r = c.load.new.self in Represents (nodes_in x.a.now) (nodes_in x.b.now) r.ns r.at r.cs c.in_ok-sorts.sorts
+represents c = let r = c.in_ok-sorts.ensures in sound_represents r.sound (bytes_known c.args.a.now c.type_inv.a) (bytes_known c.args.b.now c.type_inv.b) r.loaded
+
+pub examine-requires-clause-fits : goal.examine-requires-clause-fits
+examine-requires-clause-fits c = ((represents (goal.at.examine-requires-clause-fits c).In_ok-sorts).fits, c.in_ok-sorts.ensures.indexed)
+
+pub examine-requires-clause-beside : goal.examine-requires-clause-beside
+examine-requires-clause-beside c =
     let x = c.args in
-    list_refused x.a.now x.b.now x.list.now x.links.now (Refused Length 0) refl (tables_length x.a.now x.b.now x.list.now (sym c.lengths_right.ensures ∙ c.if-not-lengths_right.true))
+    let r = c.in_ok-sorts.ensures in
+    set_beside x.a.now x.b.now r.sound (bytes_known x.a.now c.type_inv.a) (bytes_known x.b.now c.type_inv.b) (represents (goal.at.examine-requires-clause-beside c).In_ok-sorts) x.list.now r.size
 
-pub load-s-requires : goal.load-s-requires
-load-s-requires c = may_load _ _ (sym c.lengths_right.ensures ∙ c.if-not-lengths_right.false)
+pub examine-requires-clause-links_len : goal.examine-requires-clause-links_len
+examine-requires-clause-links_len c = (c.requires, refl, no_limits c.in_ok-sorts.ensures.loaded.rows.spans)
 
-pub judge-answer-requires : goal.judge-answer-requires
-judge-answer-requires c =
-    let l = c.load-s.ensures in
-    record { a_len = may_judge _ _ (sym c.lengths_right.ensures ∙ c.if-not-lengths_right.false); named = (loaded_named l master_a, loaded_named l master_b) }
-
-pub examine-requires : goal.examine-requires
-examine-requires c =
+pub returns : goal.returns
+returns c =
     let x = c.args in
-    let e = sym c.lengths_right.ensures ∙ c.if-not-lengths_right.false in
-    let j = c.judge-answer.ensures in
-    let f = both_sound x.a.now x.b.now x.list.now e _ j.0 (is_done _ _ c.in-Done.is) in
+    let f = c.in_ok-sorts.ensures in
     let ba = bytes_known x.a.now c.type_inv.a in
     let bb = bytes_known x.b.now c.type_inv.b in
-    let l = c.load-s.ensures in record {
-      beside = (set_beside x.a.now x.b.now f ba bb (sound_represents f ba bb l) x.list.now (list_size_lem x.a.now x.b.now x.list.now e _ j.0 (is_done _ _ c.in-Done.is)), j.1);
-      links_len = (c.requires, length-replicate {A = List ℕ} 1023 (0 ∷ 0 ∷ []), no_limits l.rows.spans);
-    }
-
-pub returns-in-Done : goal.returns-in-Done
-returns-in-Done c =
-    let x = c.args in
-    let e = sym c.lengths_right.ensures ∙ c.if-not-lengths_right.false in
-    let j = c.judge-answer.ensures in
-    let f = both_sound x.a.now x.b.now x.list.now e _ j.0 (is_done _ _ c.in-Done.is) in
-    let ba = bytes_known x.a.now c.type_inv.a in
-    let bb = bytes_known x.b.now c.type_inv.b in
-    let h = sound_represents f ba bb c.load-s.ensures in
+    let h = represents (goal.at.returns c).In_ok-sorts in
     let r = c.examine.ensures in
-    list_judged x.a.now x.b.now f ba bb x.list.now _ (set_joined x.a.now x.b.now f ba bb h r.1) (list_size_lem x.a.now x.b.now x.list.now e _ j.0 (is_done _ _ c.in-Done.is)) _
-    (r.0 ∙ ap (λ (K : List Link). list_answer x.list.now K) (set_links x.a.now x.b.now f ba bb h))
-
-pub returns-in_default : goal.returns-in_default
-returns-in_default c =
-    let x = c.args in
-    let e = sym c.lengths_right.ensures ∙ c.if-not-lengths_right.false in
-    list_refused x.a.now x.b.now x.list.now x.links.now c.judge-answer.result (is_refused _ c.in_default.not-Done) (tables_judged x.a.now x.b.now x.list.now e _ c.judge-answer.ensures.0)
+    list_judged x.a.now x.b.now f.sound ba bb x.list.now _ (set_joined x.a.now x.b.now f.sound ba bb h r.1) f.size _
+    (r.0 ∙ ap (λ (K : List Link). list_answer x.list.now K) (set_links x.a.now x.b.now f.sound ba bb h))

@@ -1,13 +1,11 @@
 -- The rows of the blocks before g block with no lane.
-use Prim.Native.Nat.{ℕ, ◌+◌, ◌-◌, ◌*◌, ◌≤◌, ◌<◌}
+use Rattle.std.proofs.Common.{ℕ, ◌+◌, ◌*◌, ◌<◌}
 use Rattle.matching.specs.Definitions.Sizes.{block_rows}
-use Rattle.stability.specs.Sizes.{range_blocks}
 use Rattle.stability.specs.Ranges.{RowOf}
 use Rattle.stability.specs.Lanes.{StableLanes}
 use Rattle.stability.proofs.blocking.by_blocks.Given as goal
 
 abbrev pub invariant-loop-g : goal.invariant-loop-g
-invariant-loop-g l = (l.g ≤ range_blocks) × ((k : ℕ) → RowOf l.p k → k < l.p.from + l.g * block_rows → StableLanes l.ns l.at l.limits l.cn l.cx l.cy l.cf l.ch k)
-
-abbrev pub decreases-loop-g : goal.decreases-loop-g
-decreases-loop-g l = range_blocks - l.g
+invariant-loop-g l =
+    let r = l.rows in
+    (k : ℕ) → RowOf r.range k → k < r.range.from + l.g * block_rows → StableLanes r.ns.now r.at.now r.limits.now l.b.lanes.now k

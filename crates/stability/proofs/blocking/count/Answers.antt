@@ -2,7 +2,7 @@
 use native.Mathlib.Omega.{arith}
 use Prim.Native.Nat.{◌<◌}
 use Rattle.std.proofs.Common.{◌≡◌, refl, ◌∙◌, ℤ, w16, to_z, of_z}
-use borrow.Author.Count.{below_none, below_more}
+use borrow.Author.Count.{below_more}
 use lib.IntN.{pos}
 use lib.ListN.{get_or}
 use Rattle.matching.specs.Definitions.Pairs.{squared_distance}
@@ -13,21 +13,6 @@ use Rattle.matching.proofs.Laws.Sets.{inside_back}
 use Rattle.stability.proofs.Laws.Lanes.{key_split}
 use Rattle.stability.proofs.blocking.count.Goals as goal
 use Rattle.stability.proofs.blocking.count.Goals.{After-squared_distance-d}
-
-pub loop-k-init : goal.loop-k-init
-loop-k-init c = (omega arith, λ z. below_none _)
-
-pub offset_bounds-cx-k : goal.offset_bounds-cx-k
-offset_bounds-cx-k c = omega arith
-
-pub bounds-cx-k : goal.bounds-cx-k
-bounds-cx-k c = omega arith
-
-pub offset_bounds-cy-k : goal.offset_bounds-cy-k
-offset_bounds-cy-k c = omega arith
-
-pub bounds-cy-k : goal.bounds-cy-k
-bounds-cy-k c = omega arith
 
 -- Two positions inside, as the distance reads each from its two bytes: within reach, and as far apart as they are.
 module _ (x y u v : ℤ) (p : Inside x y) (q : Inside u v) where
@@ -41,19 +26,19 @@ pub squared_distance-d-requires : goal.squared_distance-d-requires
 squared_distance-d-requires c =
     let s = c.args in
     let k = c.loop-k.k in
-    read_reach (across s.p) (upward s.p) (get_or s.cx.now k (pos 0)) (get_or s.cy.now k (pos 0)) c.requires.0 (c.requires.2 k c.loop-k-test.true)
+    read_reach (across s.p) (upward s.p) (get_or s.lanes.now.x k (pos 0)) (get_or s.lanes.now.y k (pos 0)) c.requires.0 (c.requires.1 k (omega arith))
 
 -- The distance of the node and lane k.
 apart : (c : After-squared_distance-d)
     → let s = c.args in
     let k = c.loop-k.k in
-    let d = squared_distance (across s.p) (upward s.p) (get_or s.cx.now k (pos 0)) (get_or s.cy.now k (pos 0)) in
+    let d = squared_distance (across s.p) (upward s.p) (get_or s.lanes.now.x k (pos 0)) (get_or s.lanes.now.y k (pos 0)) in
     (c.squared_distance-d.result ≡ d) × (d < 4294967295)
 apart c =
     let s = c.args in
-    let u = get_or s.cx.now c.loop-k.k (pos 0) in
-    let v = get_or s.cy.now c.loop-k.k (pos 0) in
-    let i = c.requires.2 c.loop-k.k c.loop-k-test.true in (
+    let u = get_or s.lanes.now.x c.loop-k.k (pos 0) in
+    let v = get_or s.lanes.now.y c.loop-k.k (pos 0) in
+    let i = c.requires.1 c.loop-k.k (omega arith) in (
       c.squared_distance-d.ensures ∙ read_distance (across s.p) (upward s.p) u v c.requires.0 i,
       distance_fits (across s.p) (upward s.p) u v (inside_reach (across s.p) (upward s.p) u v c.requires.0 i),
     )

@@ -1,13 +1,11 @@
 -- The blocks before g enclose their rows.
-use Prim.Native.Nat.{ℕ, ◌-◌, ◌≤◌, ◌<◌}
-use mathlib.Core.Path.{◌≡◌}
-use lib.ListN.{length, get_or}
+use Rattle.std.proofs.Common.{ℕ, ◌<◌, ◌≡◌, length, get_or}
 use Rattle.stability.specs.Sizes.{range_blocks}
-use Rattle.stability.specs.Blocks.{Encloses, part, none}
+use Rattle.stability.specs.Ranges.{part}
+use Rattle.stability.specs.Blocks.{Encloses, none}
 use Rattle.stability.proofs.blocks.survey.Given as goal
 
 abbrev pub invariant-loop-g : goal.invariant-loop-g
-invariant-loop-g l = (l.g ≤ range_blocks) × (length l.blocks ≡ range_blocks) × ((k : ℕ) → k < l.g → Encloses l.ns l.at l.limits (part l.r k) (get_or l.blocks k none))
-
-abbrev pub decreases-loop-g : goal.decreases-loop-g
-decreases-loop-g l = range_blocks - l.g
+invariant-loop-g l =
+    let r = l.rows in
+    (length l.blocks ≡ range_blocks) × ((k : ℕ) → k < l.g → Encloses r.ns.now r.at.now r.limits.now (part r.range k) (get_or l.blocks k none))

@@ -1,7 +1,6 @@
--- Two bytes are the number of two bytes.
-use native.Mathlib.Omega.{arith}
+use Rattle.std.proofs.Common.{arith}
 use Rattle.tables.specs.Laws.Fields.{nat_two}
 use Rattle.tables.proofs.fields.two_at.Goals as goal
 
 pub returns : goal.returns
-returns c = (rw nat_two (omega arith), omega arith)
+returns c = (omega (arith, nat_two c.args.s.now c.args.at, c.from.ensures, c.from_le_bytes.ensures), omega arith)
