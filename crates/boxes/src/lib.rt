@@ -23,6 +23,7 @@ pub fn around(at: &[[i16; 2]], first: usize, end: usize) -> [i16; 4]
 {
     let p = at[first];
     let mut b = [p[0], p[0], p[1], p[1]];
+    // By k: the loop's invariant is `Around` itself, up to row k.
     for k in first..end {
         let next = grow(b, at[k]);
         b = next;

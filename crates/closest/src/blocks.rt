@@ -12,16 +12,19 @@ use matching::sizes::{BLOCK, BLOCKS};
 #[derive(Drop)]
 pub struct Blocks {
     pub lists: Lists,
+    // An end and a least number as a row of two, as `end_of` and `least_of` read them.
     pub ends: [[u32; 2]; BLOCKS],
     pub boxes: [[i16; 4]; BLOCKS],
 }
 
 // The least number from row first to row end.
+// `stability` and `repair` have their own: `Least` is of rows first to end, theirs of a range, and of a slice without a promise.
 fn lowest(ns: &[u32], first: usize, end: usize) -> u32
     requires { (first < end) × (end ≤ length ns.now) }
     ensures { Least (number_of ns.now) first end result }
 {
     let mut n = ns[first];
+    // By k: the loop's invariant is `Least` itself, up to row k.
     for k in first + 1..end {
         n = n.min(ns[k]);
     }
@@ -46,6 +49,7 @@ impl Blocks {
     }
 
     // A row loses m; where that is all it had, it leaves its block's list.
+    // `left` stays beside the blocks, with its length: `Kept` and `Picked` speak of it apart, and a struct's clauses would name it twice.
     pub fn spend(&mut self, row: usize, m: u32, rows: &Rows, left: &mut [u32])
         requires held { Held (lent rows.now) row × (length left.old ≡ set_rows) }
         requires kept { Kept (lent rows.now) left.old self.old.lists self.old.ends }

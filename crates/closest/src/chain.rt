@@ -42,6 +42,7 @@ pub struct Chain {
 fn sided(t: usize, w: usize, distance: u32) -> Pick
     ensures { result ≡ sides t w distance }
 {
+    // By HALF, as `sides` has it of any two rows: the lesser of two is A's only where they are of different masters.
     let (a, b) = if t < HALF { (t, w) } else { (w, t) };
     Pick { a, b, distance }
 }
@@ -107,6 +108,7 @@ impl Chain {
     }
 
     // Row w becomes the top.
+    // A row is a plain number with its bound in the clause: a type for it would be built and opened at every use.
     pub fn push(&mut self, w: usize)
         requires { (self.old.depth < length self.old.rows) × (length self.old.rows ≤ 2000) × (w < set_rows) }
         ensures { (self.new.rows ≡ set self.old.rows self.old.depth w) × (self.new.depth ≡ self.old.depth + 1) }

@@ -1,5 +1,5 @@
 // The lists of the rows that have something left: for each place the number, the row and the position listed there, and for each row its place.
-ghost use Rattle.std.specs.Prelude.{◌≡◌, ◌<◌, ◌≤◌, length, get_or};
+ghost use Rattle.std.specs.Prelude.{◌≡◌, ◌<◌, ◌≤◌, length};
 ghost use Rattle.matching.specs.Definitions.Sizes.{set_rows};
 ghost use Rattle.closest.specs.Live.{Sized, May, entered, Noted, Gathered, Refreshed};
 
@@ -15,6 +15,7 @@ pub struct Lists {
 
 impl Lists {
     // Lists row r at place w.
+    // `Sized` says what the types say: `Gathered` promises it on, to laws that see the lists alone.
     fn enter(&mut self, r: usize, w: usize, rows: &Rows)
         requires { Sized rows.now.ns.now rows.now.at.now self.old × (r < set_rows) × (w < set_rows) }
         ensures { self.new ≡ entered rows.now.ns.now rows.now.at.now self.old w r }

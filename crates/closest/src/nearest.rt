@@ -14,6 +14,7 @@ use matching::Range;
 use matching::sizes::{BLOCK, HALF};
 
 // A place, and distance and number of its row as one key: the lesser key comes first.
+// `repair` has a Near of its own: it holds a row with its bound, this one a place in a list.
 #[derive(Clone, Copy)]
 pub struct Near {
     pub key: u64,
@@ -39,7 +40,7 @@ fn closer(near: Near, c: u64, k: usize) -> Near
 }
 
 // The nearest to p of the nearest so far and the places from first to end. None so far is a key above every key, as in `visit` and `scan`:
-// the innermost loop then has one test of plain numbers, with no test for an Option beside it.
+// an Option's None is less than any other, so that the least key would take a test more, here and for a block's.
 fn search(p: [i16; 2], first: usize, end: usize, near: Near, lists: &Lists) -> Near
     requires { Inside (across p) (upward p) × Listing lists.now.listed lists.now.points first end }
     ensures { Sought p lists.now.listed lists.now.points first end near result }

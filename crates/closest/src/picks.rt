@@ -1,5 +1,5 @@
 // The picks along the chain: pairs are taken until none is left.
-ghost use Rattle.std.specs.Prelude.{◌≡◌, ◌<◌, Some, length, get_or};
+ghost use Rattle.std.specs.Prelude.{◌≡◌, ◌<◌, Some, length};
 ghost use Rattle.matching.specs.Definitions.Sizes.{set_rows};
 ghost use Rattle.closest.specs.Rows.{lent};
 ghost use Rattle.closest.specs.Blocks.{Kept, Fenced};

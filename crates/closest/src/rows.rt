@@ -5,6 +5,7 @@ ghost use Rattle.matching.specs.Definitions.Rows.{Fit};
 
 use matching::Spans;
 
+// `repair` and `stability` have Rows of their own: each lends what its search reads, with the facts that it needs.
 #[derive(Clone, Copy)]
 pub struct Rows<'a> {
     pub ns: &'a [u32],

@@ -3,4 +3,4 @@
 pub const CHAIN: usize = 1153;
 
 // Above every key: none, to the search.
-pub const FAR: u64 = 18446744073709551615;
+pub const FAR: u64 = u64::MAX;

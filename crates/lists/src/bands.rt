@@ -13,6 +13,7 @@ use tables::fields::put_nat;
 use tables::sizes::{self, COUNT};
 
 // The number of links in each band.
+// At most link_rows links, said here and in each clause that needs it: callers lend a part of a buffer as a slice.
 fn tally(links: &[[u32; 4]], found: &mut [u32])
     requires { (length links.now ≤ link_rows) × (found.old ≡ replicate band_count 0) }
     ensures { found.new ≡ band_counts (distances (links_of links.now)) }

@@ -36,6 +36,7 @@ pub fn common_rows(old: &[[u32; 4]], new: &[[u32; 4]]) -> usize
     ensures { (result ≡ common (links_of old.now) (links_of new.now)) × (result ≤ length old.now) }
 {
     let least = old.len().min(new.len());
+    // By k: with `zip` and `position` the lesser length has to be named all the same, for links that are all alike.
     for k in 0..least {
         if old[k] != new[k] {
             return k;

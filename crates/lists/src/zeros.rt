@@ -11,6 +11,7 @@ pub fn zero_from(list: &[u8], row: usize) -> bool
     ensures { result ≡ zero_from list.now row }
 {
     let mut most = 0u8;
+    // By k, as `all_from` counts a list's bytes from its front: those of a part would have to be counted over.
     for k in LINK * row..list.len() {
         most = most.max(list[k]);
     }

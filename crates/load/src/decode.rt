@@ -12,6 +12,7 @@ use tables::find::{capacity_in, sort_in};
 use tables::sizes::{NODE, NODE_X, NODE_Y, NODES};
 
 // Stores the node of the table's row k in row i of the set.
+// Lengths and bounds stay clauses, here and below: callers lend a table and columns as slices, and arrays would ask more of them.
 pub fn store(t: &[u8], k: usize, i: usize, ns: &mut [u32], at: &mut [[i16; 2]], cs: &mut [u32])
     requires { (length t.now ≡ table_size) × (k < node_rows) × (i < set_rows) × Columns ns.old at.old cs.old }
     ensures { Stored (node_from t.now (node_size * k)) i
@@ -25,8 +26,9 @@ pub fn store(t: &[u8], k: usize, i: usize, ns: &mut [u32], at: &mut [[i16; 2]], 
     cs[i] = capacity_in(t, k);
 }
 
-// The next free row after row i was written: row i itself where its node is of another sort. No branch, since sorts follow no
-// pattern. A sort is a number, as any byte may stand for one in a table.
+// The next free row after row i was written: row i itself where its node is of another sort.
+// Two arms, as `Advanced` has two cases: two numbers to choose from, and no step to jump over, since sorts follow no pattern.
+// A sort is a number, as any byte may stand for one in a table.
 fn advance(i: usize, sort: u32, wanted: u32) -> usize
     requires { i < set_rows }
     ensures { Advanced i sort wanted result }

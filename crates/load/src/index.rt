@@ -32,6 +32,7 @@ fn span(on: Range, off: Range) -> Range
 }
 
 // Puts every row of the range at the head of its chain; an entry is a row plus 1.
+// `heads` and `next` are lent apart, rows as numbers: `Indexed` asks for lengths alone, which a caller's slices meet.
 fn chain(r: Range, ns: &[u32], heads: &mut [u16], next: &mut [u16])
     requires { (r.to ≤ set_rows) × (length ns.now ≡ set_rows) × Indexed heads.old next.old }
     ensures { Indexed heads.new next.new }

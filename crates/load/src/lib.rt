@@ -14,8 +14,8 @@ use matching::sizes::HALF;
 use matching::{Sorts, Spans};
 use table::table;
 
-// Gives the rows of each sort and master. The columns, like the heads and next rows of an index, are lent one by one: a struct
-// of them would ask more of callers, who own them apart.
+// Gives the rows of each sort and master.
+// Columns, heads and next are lent as slices, one by one: a struct of arrays would ask more than `Columns` and `Indexed` do.
 pub fn load(a: &[u8], b: &[u8], ns: &mut [u32], at: &mut [[i16; 2]], cs: &mut [u32]) -> Sorts
     requires { (length a.now ≡ table_size) × (length b.now ≡ table_size) × Columns ns.old at.old cs.old }
     ensures { Loaded a.now b.now ns.new at.new cs.new result }

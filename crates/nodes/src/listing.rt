@@ -23,6 +23,7 @@ const INPUT: usize = NUMBER + TABLE + 1;
 const TEXT: usize = LINE * (NODES + 1);
 
 // Made by functions, so that a proof sees the length of an array and not its elements.
+// One for each buffer: their clauses name `input_room` and `text_room`, which the program needs where it calls `list`.
 pub fn input_buffer() -> [u8; INPUT]
     ensures { input_room ≡ length result }
 {

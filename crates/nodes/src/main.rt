@@ -7,6 +7,7 @@ use input::read_full;
 use std::io;
 use std::io::Write;
 
+// As in `replay`, but for the room and the text: one for both would take two sizes and a closure in place of five lines.
 fn main(rt: HostRuntime) -> io::Result<()> {
     let mut input = listing::input_buffer();
     let count = read_full(&mut rt.stdin(), &mut input)?;

@@ -62,11 +62,13 @@ fn lengths_right(a: &[u8], b: &[u8], list: &[u8]) -> bool
 }
 
 // Both tables, whose numbers are in the set; its rows are indexed.
+// No method: `Named` is of ns alone, and of a room the clause would have to say that its columns stay.
 fn judge(a: &[u8], b: &[u8], s: Sorts, ns: &[u32], heads: &mut [u16], next: &mut [u16]) -> Verdict
     requires a_len { (length a.now ≡ table_size) × (length b.now ≡ table_size) × Indexed heads.old next.old }
     requires named { Named a.now (rows_in s master_a) ns.now × Named b.now (rows_in s master_b) ns.now }
     ensures { (result ≡ by_faults (first_fault a.now) (first_fault b.now)) × Indexed heads.new next.new }
 {
+    // The rows of A, and below of B, as `rows_in` has them: each `fault` has a refusal of its own, which a loop would look up.
     let rows_a = Rows {
         on: s.on.a,
         off: s.off.a,

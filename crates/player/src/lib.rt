@@ -27,6 +27,7 @@ pub const INPUT: usize = TABLES + EDIT * EDITS;
 pub const TEXT: usize = LINE + LINE * (EDITS + 1 + LINKS);
 
 // Made by functions, so that a proof sees the length of an array and not its elements.
+// One for each buffer: their clauses name `input_room` and `text_room`, which the program needs where it calls `replay`.
 pub fn input_buffer() -> [u8; INPUT]
     ensures { input_room ≡ length result }
 {

@@ -1,5 +1,5 @@
 // The lines of document 01, E11, each written at a place of a lent text and giving its end.
-ghost use Rattle.std.specs.Prelude.{◌+◌, ◌*◌, ◌≤◌, ◌≡◌, ◌≢◌, length, IfOk, IfErr};
+ghost use Rattle.std.specs.Prelude.{◌+◌, ◌≤◌, ◌≡◌, ◌≢◌, length, IfOk, IfErr};
 ghost use Rattle.matching.specs.Definitions.Rows.{link_of};
 ghost use Rattle.player.specs.Definitions.Text.{Written};
 ghost use Rattle.player.specs.Definitions.Lines.{line_room, refusal_in, value_in, load_line, edit_line, link_line};
@@ -13,6 +13,7 @@ pub const LINE: usize = 64;
 pub const VALUES: u32 = 65536;
 
 // What refuses a call: the refusal's number, and the value beside it.
+// Numbers, not `contract`'s Refused: of an answer any number may come back, also one of no refusal.
 #[derive(Clone, Copy)]
 pub(crate) struct Refused {
     number: u32,

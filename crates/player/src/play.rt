@@ -15,6 +15,7 @@ use tables::sizes::EDIT;
 pub const EDITS: usize = 10000;
 
 // One edit, the n-th.
+// A drawing is its three slices, with the list's length in each clause: `pairing_edit` is lent them so, of whatever lengths.
 fn play_edit(
     text: &mut [u8],
     at: usize,
@@ -62,6 +63,7 @@ fn play_edits(
     ensures upper_bound { result ≤ at + line_room * edits_most }
 {
     let mut end = at;
+    // By k: an edit's line has its number, and `edited` plays edits by number, `playable` of them.
     for k in 0..count_edits(edits.len()) {
         let from = EDIT * k;
         let edit = &edits[from..from + EDIT];

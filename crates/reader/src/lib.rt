@@ -20,6 +20,7 @@ pub struct Node {
     pub x: i16,
     pub y: i16,
     pub capacity: u32,
+    // Capacity and sort are numbers as the row has them: `found_of` says so of any table, and a sort is a byte there.
     pub sort: u32,
 }
 

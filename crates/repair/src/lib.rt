@@ -10,12 +10,12 @@ mod run;
 mod sizes;
 mod surplus;
 
-ghost use Rattle.std.specs.Prelude.{◌<◌, ◌≤◌, ◌≡◌, length, IfSome};
+ghost use Rattle.std.specs.Prelude.{◌<◌, ◌≤◌, length, IfSome};
 ghost use Rattle.matching.specs.Definitions.Sizes.{link_rows, set_rows};
 ghost use Rattle.repair.specs.Repair.{Links};
 
 use links::{New, Old};
-use matching::sizes::{BLOCKS, LINKS, ROWS};
+use matching::sizes::{BLOCKS, ROWS};
 use matching::{Master, Set};
 use pairs::{Choice, Pair};
 use rest::{Block, Left, Rest};
@@ -35,6 +35,7 @@ fn edited(number: u32, master: Master, set: &Set) -> Option<usize>
 }
 
 // The run begins: the row of the edited node, if it is there, had nothing left.
+// Set, rest and surplus go apart, here and below: a search for the surplus reads the rest, and the set is only lent.
 fn start(
     number: u32,
     master: Master,

@@ -1,5 +1,5 @@
 // The old links, the new ones that are written, and what they take of their rows.
-ghost use Rattle.std.specs.Prelude.{◌<◌, ◌≤◌, ◌≡◌, length, IfSome};
+ghost use Rattle.std.specs.Prelude.{◌<◌, ◌≤◌, length, IfSome};
 ghost use Rattle.matching.specs.Definitions.Sizes.{set_rows, link_rows};
 
 use crate::pairs::Pair;
@@ -27,6 +27,7 @@ pub struct New<'a> {
 }
 
 // Writes the link of A's row i and B's row j, at distance d with amount m, unless that is nothing.
+// Rows and blocks are plain numbers with their bounds in clauses: a type for them would be built and opened at every use.
 fn write(run: Run, i: usize, j: usize, d: u32, m: u32, set: &Set, new: &mut New) -> Option<Run>
     requires { (i < set_rows) × (j < set_rows) }
 {

@@ -11,7 +11,7 @@ use matching::sizes::{BLOCK, HALF, ROWS};
 use matching::{Master, Set};
 
 // A row, and its distance and number as one key: the lesser key comes first. No row has the greatest key, which stands for none:
-// the innermost comparisons are of keys alone.
+// an Option's None is less than any other, so that the two least keys would take a test more in each comparison.
 #[derive(Clone, Copy)]
 struct Near {
     key: u64,

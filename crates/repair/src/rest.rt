@@ -131,10 +131,7 @@ impl Rest {
         requires { k < set_rows }
     {
         let x = self.rows[k];
-        self.rows[k] = Left {
-            had: x.had.saturating_sub(m),
-            has: x.has,
-        };
+        self.rows[k].had = x.had.saturating_sub(m);
         x.had != 0 && x.had <= m && x.has != 0
     }
 

@@ -47,6 +47,7 @@ impl Surplus {
     fn find_earliest(&mut self, set: &Set) {
         self.charge(self.rows / sizes::LOOK + 1);
         let mut e = 0;
+        // By `earlier`, as `enter` compares two places too: `min_by_key` would make the order a second time.
         for i in 1..self.rows {
             e = self.earlier(e, i, set);
         }

@@ -34,6 +34,7 @@ fn both(p: u32, s: u32, q: u32, t: u32) -> u32
 }
 
 // 1 where nodes d apart, numbered n and m, block: their limits are (f, g) and (h, k).
+// Plain numbers: each is read from an array of its own in `count`, and a struct of them would be taken apart at once.
 fn blocks(d: u32, n: u32, f: u32, g: u32, m: u32, h: u32, k: u32) -> u32
     requires { d + 1 < number_range }
     ensures { (result ≤ 1) × (result ≡ 0 → ¬ Blocks d n (key f g) m (key h k)) }

@@ -21,10 +21,12 @@ pub struct Block {
 }
 
 // The least number of the range's rows.
+// The order of a range is a clause wherever it is needed: `matching`'s Range promises none, and any caller may build one.
 fn least(ns: &[u32], r: Range) -> u32
     requires { (r.from ≤ r.to) × (r.to ≤ length ns.now) }
     ensures { (k : ℕ) → RowOf r k → result ≤ get_or ns.now k 0 }
 {
+    // By k, here and in `limit`: the invariant is the clause up to row k. One for both would take the order as a closure.
     let mut least = u32::MAX;
     for k in r.from..r.to {
         least = least.min(ns[k]);

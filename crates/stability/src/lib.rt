@@ -31,6 +31,7 @@ fn numbers_fit(ns: &[u32])
 
 // True only where the links are the join of the masters' nodes; `places` has the rows where the links' nodes are said to stand.
 // The limits that are lent become those of the links where these are the join.
+// Links and places are lent apart, here and in `links`: a caller has one place or more for each link, in a buffer of its own.
 pub fn verify(set: Set, links: &[[u32; 4]], places: &[[u16; 2]], limits: &mut [u64]) -> bool
     requires { (length links.now ≤ length places.now) × Barred set.ns.now set.at.now set.sorts limits.old }
     ensures { (result ≡ true → links_in links.now (length links.now)

@@ -22,6 +22,7 @@ fn ahead(p: [u32; 4], q: [u32; 4]) -> bool
 fn in_order(links: &[[u32; 4]]) -> bool
     ensures { result ≡ true → Ordered links.now (length links.now) }
 {
+    // By k: `Ordered` is of neighbours by number, and the loop's invariant is that clause, up to row k.
     for k in 1..links.len() {
         if !ahead(links[k - 1], links[k]) {
             return false;
@@ -35,7 +36,7 @@ fn has(ns: &[u32], r: Range, i: usize, n: u32) -> bool
     requires { r.to ≤ length ns.now }
     ensures { result ≡ true → RowOf r i × (get_or ns.now i 0 ≡ n) }
 {
-    r.from <= i && i < r.to && ns[i] == n
+    (r.from..r.to).contains(&i) && ns[i] == n
 }
 
 // The nodes of link l stand in rows i and j of the ranges s, as far apart as it says.

@@ -12,6 +12,7 @@ pub fn spread(at: &[[i16; 2]], r: Range) -> u64
     requires { (r.from ≤ r.to) × (r.to ≤ length at.now) × (r.to ≤ r.from + node_rows) × ((k : ℕ) → RowOf r k → Inside (x_at at.now k) (y_at at.now k)) }
 {
     let mut sum = 0;
+    // By k, which bounds the sum: so many squared distances have been added.
     for k in r.from + 1..r.to {
         sum += u64::from(matching::apart(at[k - 1], at[k]));
     }

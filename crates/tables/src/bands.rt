@@ -7,5 +7,5 @@ ghost use Rattle.tables.specs.Definitions.Bands.{binary_digits};
 pub fn band(d: u32) -> u32
     ensures { (result ≡ binary_digits d) × (result < band_count) }
 {
-    32 - u32::leading_zeros(d)
+    32 - d.leading_zeros()
 }

@@ -41,6 +41,7 @@ impl TryFrom<u8> for Change {
 }
 
 // The master that a byte names.
+// No TryFrom, as Change has: Master is `matching`'s type, which knows no bytes, and `Names` speaks of an Option.
 pub fn master(byte: u8) -> Option<Master>
     ensures { Names byte result }
 {
@@ -52,6 +53,7 @@ pub fn master(byte: u8) -> Option<Master>
 }
 
 // The byte that says its kind.
+// The length is a clause of each function of an edit's bytes: callers lend a slice, and an array would ask more of them.
 pub fn kind_of(edit: &[u8]) -> u8
     requires { length edit.now ≡ edit_size }
     ensures { result ≡ kind_of edit.now }

@@ -1,5 +1,5 @@
 // The first faulty row of a table, by document 01's rule, row by row: exact, and slow where many rows have numbers.
-// `nodes` has the quick way for tables without a fault.
+// `load` has the quick way for tables without a fault.
 ghost use Rattle.std.specs.Prelude.{◌*◌, ◌<◌, ◌≤◌, ◌≡◌, length};
 ghost use Rattle.tables.specs.Definitions.Sizes.{node_rows, table_size};
 ghost use Rattle.tables.specs.Definitions.Tables.{row_number, stands_before, faulty, first_fault};
@@ -8,6 +8,7 @@ use super::fields::number_at;
 use super::rows::{fields_good, fields_zero};
 use super::sizes::{NODE, NODES};
 
+// Length and row bound are clauses of each function of a table's bytes: callers lend a slice, and an array would ask more of them.
 #[tactic(auto, unfolding(crate::specs::Definitions::Tables::row_number))]
 pub fn row_number(t: &[u8], k: usize) -> u32
     requires { (length t.now ≡ table_size) × (k < node_rows) }

@@ -1,4 +1,4 @@
-// Fields of bytes: little-endian numbers of two and of four bytes, and two's complement positions.
+// Fields of bytes: little-endian numbers, and two's complement positions.
 ghost use Rattle.std.specs.Prelude.{◌+◌, ◌≤◌, ◌<◌, ◌≡◌, length};
 ghost use Rattle.tables.specs.Definitions.Sizes.{number_size, position_size};
 ghost use Rattle.tables.specs.Definitions.Fields.{nat_at, nat_bytes, signed, position_at};

@@ -28,6 +28,7 @@ pub fn capacity_good(field: u32) -> bool
     ensures { result ≡ capacity_good field }
 {
     let capacity = field % BYTE_END;
+    // Written as `capacity_good` is, so that it unfolds to this.
     1 <= capacity && capacity <= MOST && field / BYTE_END <= MOST_SORT
 }
 

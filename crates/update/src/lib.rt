@@ -13,7 +13,7 @@ use node::update_node;
 use tables::edits::{master_of, number_of};
 
 // Gives the rows of each sort and master. The edited row's limit becomes 0; the places of a row that had to move are put right.
-// Columns, limits and places are lent one by one: a struct of them would ask more of callers, who own them apart.
+// Columns, limits and places are lent as slices, one by one: a struct of arrays would ask more of callers than `Edited` does.
 pub fn update(
     a: &[u8],
     b: &[u8],

@@ -12,6 +12,7 @@ use matching::{Master, Range};
 use tables::find::{row_of, sort_in};
 
 // The table's row of the node with the number z, where there is one of the sort.
+// A sort is a number here, as in `decode`: `Outdated` and `Current` are of `of_sort`, which takes what a table holds.
 fn row_in(t: &[u8], z: u32, sort: u32) -> Option<usize>
     requires { (length t.now ≡ table_size) × Unique (nodes_in t.now) }
     ensures { RowIn t.now z sort result }

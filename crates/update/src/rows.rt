@@ -11,6 +11,7 @@ pub fn find(r: Range, ns: &[u32], z: u32) -> Option<usize>
     requires { (r.from ≤ r.to) × (r.to ≤ length ns.now) }
     ensures { Found r ns.now z result }
 {
+    // By k, as `Found` speaks of rows by number; `repair` looks by `position`, and promises less.
     for k in r.from..r.to {
         if ns[k] == z {
             return Some(k);

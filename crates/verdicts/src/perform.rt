@@ -1,6 +1,6 @@
 // An edit performed, once the list is known to be finished: its own places from the top, and where none of them refuses it, its effect on a table.
 ghost use Rattle.std.specs.Prelude.{◌≡◌, length};
-ghost use Rattle.tables.specs.Definitions.Sizes.{edit_size, node_rows, table_size};
+ghost use Rattle.tables.specs.Definitions.Sizes.{edit_size, table_size};
 ghost use Rattle.tables.specs.Definitions.Tables.{nodes_in};
 ghost use Rattle.tables.specs.Definitions.Edits.{kind_of};
 ghost use Rattle.tables.specs.Laws.Changes.{change_of, arrives};

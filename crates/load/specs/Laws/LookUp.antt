@@ -7,8 +7,7 @@ use Rattle.std.proofs.Math.ListN.{get_or}
 use borrow.Author.Tests.{eq-eqb, ne_eqb, lt-ltb, le-ltb, le-leb, lt-leb}
 use Rattle.matching.specs.declared.Range.{Range}
 use Rattle.matching.specs.Definitions.Sizes.{node_rows}
-use Rattle.load.specs.Load.{Rows}
-use Rattle.load.specs.Index.{slot_of, walk, look_up, Found, FoundAll, Among, on_curve, off_curve, Distinct}
+use Rattle.load.specs.Index.{slot_of, walk, look_up, Found}
 
 -- The walk from the entry i on, f entries at most, is the whole look-up.
 pub record Walking (r : Range) (ns heads next : List ℕ) (n f i : ℕ) : Type 0 where
