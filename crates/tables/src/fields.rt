@@ -28,11 +28,16 @@ pub fn number_at(s: &[u8], at: usize) -> u32
 }
 
 // The position that 16 bits stand for. They fit, so that try_from would only test it again.
+// By the two cases of the OpenType description, each arm saying its value.
 pub fn position(bits: u32) -> i16
     requires { bits < 65536 }
     ensures { result ≡ signed bits }
 {
-    (bits as u16).cast_signed()
+    let n = bits as u16;
+    match n {
+        0..=32767 => n as i16,
+        32768..=65535 => (i32::from(n) - 65536) as i16,
+    }
 }
 
 pub fn position_at(s: &[u8], at: usize) -> i16

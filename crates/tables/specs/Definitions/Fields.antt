@@ -1,5 +1,5 @@
 -- Fields of bytes: little-endian numbers of any width, and two's complement positions.
-use Rattle.std.specs.Prelude.{ℕ, zero, suc, ◌+◌, ◌*◌, ◌-◌, ◌/◌, ◌%◌, ◌<◌, cond, List, [], ◌∷◌, ltb, ℤ, pos, negsuc, get_or}
+use Rattle.std.specs.Prelude.{ℕ, zero, suc, ◌+◌, ◌*◌, ◌-◌, ◌/◌, ◌%◌, ◌<◌, cond, List, [], ◌∷◌, ltb, ℤ, pos, negsuc, ◌-ℤ◌, get_or}
 use Rattle.matching.specs.Definitions.Lists.{All}
 use Rattle.tables.specs.Definitions.Sizes.{position_size}
 
@@ -16,9 +16,9 @@ unfoldable pub nat_bytes : ℕ → ℕ → List ℕ
 nat_bytes zero n = []
 nat_bytes (suc w) n = n % 256 ∷ nat_bytes w (n / 256)
 
--- Two's complement in 16 bits: the position that a field stands for, and the field of a position.
+-- Two's complement in 16 bits: the position that a field stands for, itself or itself less 65,536; and the field of a position.
 unfoldable pub signed : ℕ → ℤ
-signed n = cond (ltb n 32768) (pos n) (negsuc (65535 - n))
+signed n = cond (ltb n 32768) (pos n) (pos n -ℤ pos 65536)
 
 unfoldable pub unsigned : ℤ → ℕ
 unsigned (pos n) = n

@@ -1,7 +1,8 @@
 -- Fields read back what was written, whatever their width.
-use Rattle.std.specs.Prelude.{ℕ, zero, suc, ◌+◌, ◌*◌, ◌-◌, ◌/◌, ◌%◌, ◌^◌, ◌<◌, ◌≤◌, ◌≡◌, refl, Bool, true, false, cond, List, [], ◌∷◌, ◌++◌, ltb, ℤ, pos, negsuc, nat_abs, length, get_or, take, drop, replicate}
+use Rattle.std.specs.Prelude.{ℕ, zero, suc, ◌+◌, ◌*◌, ◌-◌, ◌/◌, ◌%◌, ◌^◌, ◌<◌, ◌≤◌, ◌≡◌, refl, List, [], ◌∷◌, ◌++◌, ℤ, pos, negsuc, ◌-ℤ◌, nat_abs, length, get_or, take, drop, replicate}
 use Rattle.std.proofs.Common.{sym, ◌∙◌, ap, ap₂, arith, length-drop, take-add, drop-drop, lt-ltb, le-ltb}
 use Rattle.std.proofs.Math.Nat.{pow-succ'}
+use Rattle.std.proofs.Math.Decide.{dec_lt}
 use Rattle.std.specs.Int.{w32, to_le_bytes, byte_at as byte_of}
 use Rattle.matching.specs.Definitions.Nodes.{Node}
 use Rattle.matching.proofs.Laws.Lists.{all_append}
@@ -161,10 +162,23 @@ bytes_le (suc (suc (suc (suc zero)))) n h = λ t. n % 256 ∷ second n t ∷ thi
 bytes_le (suc (suc (suc (suc (suc w))))) n h = absurd (omega arith)
 
 -- Positions.
+pub signed_low : (n : ℕ) → n < 32768 → signed n ≡ pos n
+unfolding signed
+signed_low n h = rw (lt-ltb n 32768 h)
+
+pub signed_less : (n : ℕ) → 32768 ≤ n → signed n ≡ pos n -ℤ pos 65536
+unfolding signed
+signed_less n h = rw (le-ltb n 32768 h)
+
+pub signed_high : (n : ℕ) → 32768 ≤ n → n < 65536 → signed n ≡ negsuc (65535 - n)
+signed_high n l h =
+    let e : 65536 - suc n ≡ 65535 - n = omega arith in
+    signed_less n l ∙ rw (lt-ltb n 65536 h) (ap negsuc e)
+
 pub signed-unsigned : (z : ℤ) → nat_abs z ≤ farthest → signed (unsigned z) ≡ z
-unfolding signed unsigned
-signed-unsigned (pos n) h = rw (lt-ltb n 32768 (omega arith))
-signed-unsigned (negsuc n) h = rw (le-ltb (65535 - n) 32768 (omega arith)) (ap negsuc (omega arith))
+unfolding unsigned
+signed-unsigned (pos n) h = signed_low n (omega arith)
+signed-unsigned (negsuc n) h = signed_high (65535 - n) (omega arith) (omega arith) ∙ ap negsuc (omega arith)
 
 pub unsigned_high : (z : ℤ) → nat_abs z ≤ farthest → unsigned z < 65536
 unfolding unsigned
@@ -172,9 +186,9 @@ unsigned_high (pos n) h = omega arith
 unsigned_high (negsuc n) h = omega arith
 
 pub unsigned_signed : (n : ℕ) → n < 65536 → unsigned (signed n) ≡ n
-unfolding signed unsigned
-unsigned_signed n h = go (ltb n 32768)
+unfolding unsigned
+unsigned_signed n h = go (dec_lt n 32768)
   where
-    go : (t : Bool) → unsigned (cond t (pos n) (negsuc (65535 - n))) ≡ n
-    go true = refl
-    go false = omega arith
+    go : Dec (n < 32768) → unsigned (signed n) ≡ n
+    go (yes l) = rw (signed_low n l)
+    go (no f) = rw (signed_high n (omega arith) h) (omega arith)

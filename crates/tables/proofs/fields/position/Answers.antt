@@ -1,19 +1,22 @@
--- Two's complement in 16 bits is the definition's.
-use Rattle.std.specs.Prelude.{ℕ, suc, ◌-◌, ◌≡◌, refl, Bool, true, false, cond, pos, negsuc, ltb}
-use Rattle.std.proofs.Common.{◌∙◌, ap, arith}
-use Rattle.std.specs.Int.{w16, cast_signed}
-use mir.Val.{sel}
-use Rattle.matching.proofs.Laws.Widths.{back}
+-- Each arm says the value of the definition's case.
+use Rattle.std.specs.Prelude.{◌≤◌, ◌≡◌, ℤ, pos, ◌-ℤ◌}
+use Rattle.std.proofs.Common.{sym, ◌∙◌, ap, subst, arith}
+use Rattle.std.proofs.Math.Facts.{to_z_pos, to_z-of_z, sfits_widen}
+use mir.Syntax.{w16, w32}
+use mir.Val.{to_z, of_z, SFits}
 use Rattle.tables.specs.Definitions.Fields.{signed}
+use Rattle.tables.specs.Laws.Fields.{signed_low, signed_less, signed_high}
 use Rattle.tables.proofs.fields.position.Goals as goal
 
-same : (n : ℕ) → cast_signed w16 n ≡ signed n
-unfolding signed
-same n = go (ltb n 32768)
-  where
-    go : (t : Bool) → sel t (pos n) (negsuc (65536 - suc n)) ≡ cond t (pos n) (negsuc (65535 - n))
-    go true = refl
-    go false = let e : 65536 - suc n ≡ 65535 - n = omega arith in ap negsuc e
+pub returns-in-0-to-32767 : goal.returns-in-0-to-32767
+returns-in-0-to-32767 c = to_z_pos w16 (omega arith) ∙ sym (signed_low c.args.bits (omega arith))
 
-pub returns : goal.returns
-returns c = back c.cast_signed.result c.cast_signed.type_inv ∙ c.cast_signed.ensures ∙ same c.args.bits
+pub returns-in-32768-to-65535 : goal.returns-in-32768-to-65535
+returns-in-32768-to-65535 c =
+    let n = c.args.bits in
+    let z = c.from.result in
+    let d = to_z w32 (of_z w32 z) -ℤ pos 65536 in
+    let l : 32768 ≤ n = omega arith in
+    let held : d ≡ signed n = ap (λ (x : ℤ). x -ℤ pos 65536) (to_z-of_z {w = w32} (record { sfits = c.from.type_inv }) ∙ c.from.ensures) ∙ sym (signed_less n l) in
+    let f : SFits w16 d = subst (SFits w16) (sym held) (rw (signed_high n l c.requires) (record { sfits = omega arith })) in
+    ap (λ (x : ℤ). to_z w16 (of_z w16 x)) (to_z-of_z {w = w32} (sfits_widen {w = w16} {w' = w32} tt f)) ∙ to_z-of_z f ∙ held
