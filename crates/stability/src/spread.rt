@@ -9,7 +9,8 @@ use matching::Range;
 
 // The squared distances of the rows from the ones before them, as a sum.
 pub fn spread(at: &[[i16; 2]], r: Range) -> u64
-    requires { (r.from ≤ r.to) × (r.to ≤ length at.now) × (r.to ≤ r.from + node_rows) × ((k : ℕ) → RowOf r k → Inside (x_at at.now k) (y_at at.now k)) }
+    requires { (r.from ≤ r.to) × (r.to ≤ length at.now) × (r.to ≤ r.from + node_rows)
+        × ((k : ℕ) → RowOf r k → Inside (x_at at.now k) (y_at at.now k)) }
 {
     let mut sum = 0;
     // By k, which bounds the sum: so many squared distances have been added.
