@@ -1,5 +1,5 @@
 // The two rows nearest to a row among the other master's that have something left.
-ghost use Rattle.std.specs.Prelude.{◌<◌};
+ghost use Rattle.std.specs.Prelude.{◌+◌, ◌<◌, ◌≤◌};
 ghost use Rattle.matching.specs.Definitions.Columns.{Inside};
 ghost use Rattle.matching.specs.Definitions.Rows.{across, upward};
 ghost use Rattle.matching.specs.Definitions.Sizes.{set_rows, set_blocks};
@@ -79,11 +79,12 @@ impl Two {
     }
 }
 
-// The two nearest, and what the search has cost: a unit, and two for each block that was looked through.
+// The two nearest, and how many blocks were looked through for them: a first one, and then no more than there are.
 #[derive(Clone, Copy)]
 struct Found {
     two: Two,
-    cost: usize,
+    scans: usize,
+    ghost scanned: { scans ≤ set_blocks + 1 },
 }
 
 // A search among some rows for the two nearest to a position.
@@ -121,14 +122,15 @@ impl<'a> Search<'a> {
 
     // The two nearest of those found and of block b, unless that is the block looked through first, or too far away.
     fn visit(&self, b: usize, start: usize, f: Found, rest: &Rest) -> Found
-        requires { b < set_blocks }
+        requires { (b < set_blocks) × (f.scans ≤ set_blocks) }
+        ensures { result.scans ≤ f.scans + 1 }
     {
         if b == start || !rest.reaches(self.p, b, f.two.second.key) {
             return f;
         }
         Found {
             two: self.scan(b, f.two, rest),
-            cost: f.cost.saturating_add(2),
+            scans: f.scans + 1,
         }
     }
 
@@ -137,7 +139,7 @@ impl<'a> Search<'a> {
         let start = near % ROWS / BLOCK;
         let mut f = Found {
             two: self.scan(start, Two::none(), rest),
-            cost: 3,
+            scans: 1,
         };
         for b in self.rows.from / BLOCK..self.rows.to.div_ceil(BLOCK) {
             f = self.visit(b, start, f, rest);
@@ -164,14 +166,15 @@ fn search_for<'a>(t: usize, set: &Set<'a>) -> Option<Search<'a>> {
     })
 }
 
-// The pairs of row t and the two nearest of the other master's rows of its sort that have something left, and what the search costs;
-// the block of row `near` is looked through first.
+// The pairs of row t and the two nearest of the other master's rows of its sort that have something left, and how many blocks were
+// looked through; that of row `near` is the first.
 pub fn partners(t: usize, near: usize, set: &Set, rest: &Rest) -> (Option<Choice>, usize)
     requires { t < set_rows }
+    ensures { result.1 ≤ set_blocks + 1 }
 {
     let Some(search) = search_for(t, set) else {
-        return (None, 1);
+        return (None, 0);
     };
     let f = search.run(near, rest);
-    (f.two.choice(t), f.cost)
+    (f.two.choice(t), f.scans)
 }

@@ -31,12 +31,13 @@ fn repeat(link: [u32; 4], places: [u16; 2], ns: &[u32], rest: &mut Rest) -> bool
     rest.repeat(i, j, link[3])
 }
 
-// The place of the earliest candidate, past every link where there is none: with an Option in its place the loop over the old links,
-// a comparison for each, took 3 % more instructions.
+// The place of the earliest candidate. Where there is none it is past every link of a join, whose distances are less; among old links of just
+// that distance, which may be lent too, it stands where one of row LAST with itself would. With an Option in its place the loop over the old
+// links, a comparison for each, took 3 % more instructions.
 fn limit(surplus: &Surplus, set: &Set) -> Order {
     match surplus.candidate() {
         Some(p) => p.order(set),
-        None => (u32::MAX, 0, 0),
+        None => (u32::MAX, set.ns[sizes::LAST], set.ns[sizes::LAST]),
     }
 }
 

@@ -7,6 +7,10 @@ pub const ADVANCE: usize = 32;
 
 pub const SHARE: usize = 4;
 
+// The row whose number stands for both nodes in the place past every link of a join. Any row would do; with this one a repair of old links that
+// no join has gives what it gave before its pairs had fields.
+pub const LAST: usize = 895;
+
 // Rows with a surplus that are looked at for a unit.
 pub const LOOK: usize = 16;
 

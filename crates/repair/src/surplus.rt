@@ -1,7 +1,7 @@
 // The rows with a surplus: they have something left, and had nothing left at the same place of the links before the edit.
-ghost use Rattle.std.specs.Prelude.{◌<◌, ◌≤◌};
-ghost use Rattle.matching.specs.Definitions.Sizes.{set_rows};
-ghost use Rattle.repair.specs.Sizes.{surplus_rows};
+ghost use Rattle.std.specs.Prelude.{◌+◌, ◌<◌, ◌≤◌};
+ghost use Rattle.matching.specs.Definitions.Sizes.{set_rows, set_blocks};
+ghost use Rattle.repair.specs.Sizes.{surplus_rows, cost_most};
 
 use crate::pairs::{Choice, Pair};
 use crate::rest::Rest;
@@ -28,8 +28,18 @@ impl Surplus {
         Some(self.choices[self.first].candidate)
     }
 
-    fn charge(&mut self, cost: usize) {
+    // The run costs something more.
+    fn charge(&mut self, cost: usize)
+        requires { cost ≤ cost_most }
+    {
         self.cost = self.cost.saturating_add(cost);
+    }
+
+    // A search costs a unit, and two for each block that was looked through.
+    fn charge_search(&mut self, scans: usize)
+        requires { scans ≤ set_blocks + 1 }
+    {
+        self.charge(2 * scans + 1);
     }
 
     // Of the places e and i the one with the earlier candidate.
@@ -62,8 +72,8 @@ impl Surplus {
         if n >= sizes::SURPLUS {
             return None;
         }
-        let (choice, cost) = nearest::partners(t, near, set, rest);
-        self.charge(cost);
+        let (choice, scans) = nearest::partners(t, near, set, rest);
+        self.charge_search(scans);
         let Some(choice) = choice else {
             return Some(());
         };
@@ -89,8 +99,8 @@ impl Surplus {
 
     // The row whose candidate p was the earliest looks for another candidate and another runner-up.
     fn replace(&mut self, p: Pair, set: &Set, rest: &Rest) {
-        let (choice, cost) = nearest::partners(p.owner(), p.partner(), set, rest);
-        self.charge(cost);
+        let (choice, scans) = nearest::partners(p.owner(), p.partner(), set, rest);
+        self.charge_search(scans);
         let Some(choice) = choice else {
             return self.remove(set);
         };
