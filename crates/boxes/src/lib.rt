@@ -31,11 +31,12 @@ pub fn around(at: &[[i16; 2]], first: usize, end: usize) -> [i16; 4]
     b
 }
 
-// The coordinate from low to high that is nearest to p. It is `clamp` without its condition, that low is at most high: callers may pass any box.
+// The coordinate from low to high that is nearest to p. It is `clamp` without its condition, that low is at most high: callers may pass any box,
+// and of one without room, whose low is past its high, the low end is tried first.
 fn clamp(p: i16, low: i16, high: i16) -> i16
     ensures { Clamped p low high result }
 {
-    p.min(high).max(low)
+    if p < low { low } else { p.min(high) }
 }
 
 // The position in the box that is nearest to p.

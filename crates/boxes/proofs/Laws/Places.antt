@@ -116,26 +116,18 @@ module _ (p q : ℤ) where
   pub max_small : (n : ℕ) → nat_abs p ≤ n → nat_abs q ≤ n → nat_abs (int_max p q) ≤ n
   max_small n h k = chosen (λ z. nat_abs z ≤ n) (lt_z q p) h k
 
--- The answer of a clamp, by the test of each end.
+-- The answer of a clamp where the low end is not taken, by the test of the high one.
 module _ (p low high : ℤ) where
-  pub clamped : Clamped p low high (int_max (int_min p high) low)
-  clamped = record { between = λ u a b. go u a b (lt_z high p) refl; small = λ n a b c. max_small (int_min p high) low n (min_small p high n a c) b }
+  pub clamped : Clamped p low high (int_min p high)
+  clamped = record { between = λ u a b. go u a b (lt_z high p) refl; small = λ n a b c. min_small p high n a c }
     where
       side : (u : ℤ) → (u ≤ℤ p) ⊎ (p ≤ℤ u) → Between p p u
       side u (inl h) = inr (h, ≤ℤ_refl p)
       side u (inr h) = inl (≤ℤ_refl p, h)
 
-      past : (u : ℤ) → low ≤ℤ u → u ≤ℤ high → high ≤ℤ p → (t : Bool) → lt_z low high ≡ t → Between p (cond t high low) u
-      past u a b h true e = inr (b, h)
-      past u a b h false e = inr (le_then u high low b (lt_z_no (rw e tt)), le_then low u p a (le_then u high p b h))
-
-      here : (u : ℤ) → low ≤ℤ u → (t : Bool) → lt_z low p ≡ t → Between p (cond t p low) u
-      here u a true e = side u (either u p)
-      here u a false e = inl (lt_z_no (rw e tt), a)
-
-      go : (u : ℤ) → low ≤ℤ u → u ≤ℤ high → (t : Bool) → lt_z high p ≡ t → Between p (int_max (cond t high p) low) u
-      go u a b true e = past u a b (le_lt high p e) (lt_z low high) refl
-      go u a b false e = here u a (lt_z low p) refl
+      go : (u : ℤ) → low ≤ℤ u → u ≤ℤ high → (t : Bool) → lt_z high p ≡ t → Between p (cond t high p) u
+      go u a b true e = inr (b, le_lt high p e)
+      go u a b false e = side u (either u p)
 
 -- A position from low to high that is at most n away from c.
 pub record Near (c low high : ℤ) (n : ℕ) : Type 0 where
