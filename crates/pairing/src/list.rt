@@ -7,7 +7,7 @@ ghost use Rattle.load.specs.Index.{Indexed};
 ghost use Rattle.verdicts.specs.Lists.{links_on, list_answer, Listed, Beside};
 ghost use Rattle.pairing.specs.Verdicts.{ListJudged};
 
-use super::soundness::Room;
+use super::soundness::{Room, lengths};
 use contract::Answer;
 use lists::rows::read_links;
 use load::index::locate;
@@ -49,6 +49,7 @@ pub fn judge_all(a: &[u8], b: &[u8], list: &[u8], links: &mut [[u32; 4]]) -> Ans
     requires { length links.old ≡ link_rows }
     ensures { ListJudged a.now b.now list.now links.new result }
 {
+    lengths(a, b, list)?;
     let mut room = Room::new();
     let sorts = room.load(a, b, list)?;
     let mut places = [[0u16; 2]; LINKS];

@@ -8,7 +8,7 @@ ghost use Rattle.load.specs.Laws.Loaded.{rows_in};
 ghost use Rattle.contract.specs.Definitions.Buffers.{lent, lengths_of};
 ghost use Rattle.contract.specs.Definitions.Requests.{pair_shape};
 ghost use Rattle.contract.specs.Definitions.Refusals.{lengths_right};
-ghost use Rattle.pairing.specs.Verdicts.{by_faults, Ready, TablesJudged};
+ghost use Rattle.pairing.specs.Verdicts.{by_faults, LengthsJudged, Ready, TablesJudged};
 
 use contract::{Refusal, Refused, Verdict};
 use load::fault::fault;
@@ -44,13 +44,21 @@ impl Room {
     pub fn load(&mut self, a: &[u8], b: &[u8], list: &[u8]) -> Result<Sorts, Refused>
         ensures { TablesJudged a.now b.now list.now (Ready a.now b.now list.now self.new.ns self.new.at self.new.cs self.new.heads self.new.next) result }
     {
-        if !lengths_right(a, b, list) {
-            return Err(Refusal::Length.into());
-        }
+        lengths(a, b, list)?;
         let sorts = load(a, b, &mut self.ns, &mut self.at, &mut self.cs);
         judge(a, b, sorts, &self.ns, &mut self.heads, &mut self.next)?;
         Ok(sorts)
     }
+}
+
+// The verdict on the lengths. It comes ahead of a room, too, so that a refusal does not wait for the room's zeros.
+pub fn lengths(a: &[u8], b: &[u8], list: &[u8]) -> Verdict
+    ensures { LengthsJudged a.now b.now list.now result }
+{
+    if lengths_right(a, b, list) {
+        return Ok(());
+    }
+    Err(Refusal::Length.into())
 }
 
 // The tables and the list have their stated lengths.

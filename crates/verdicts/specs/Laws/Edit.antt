@@ -48,7 +48,7 @@ module _ (e : List ℕ) (A B : List Node) where
       go false true false true f = refl
       go false true false false f = refl
 
-  edit_places : refusal_in (edit_answer e A B) ≡ own_answer (edit_shape e) (drawing A B)
+  pub edit_places : refusal_in (edit_answer e A B) ≡ own_answer (edit_shape e) (drawing A B)
   edit_places = go (leb 1 (kind_of e) && leb (kind_of e) 4) refl (ℕ_discrete (master_of e) 0) (ℕ_discrete (master_of e) 1)
     where
       go : (k : Bool) → (leb 1 (kind_of e) && leb (kind_of e) 4) ≡ k → Dec (master_of e ≡ 0) → Dec (master_of e ≡ 1) → refusal_in (edit_answer e A B) ≡ own_answer (edit_shape e) (drawing A B)

@@ -12,9 +12,14 @@ use Rattle.pairing.specs.Laws.Sets.{no_limits, sound_represents}
 use Rattle.pairing.proofs.list.judge_all.Goals as goal
 use Rattle.pairing.proofs.list.judge_all.Goals.{In_ok-sorts}
 
+pub returns-in_err-lengths : goal.returns-in_err-lengths
+returns-in_err-lengths c =
+    let p = err_from_is_err_and c.from_residual.result c.from_residual.ensures.1 in
+    rw (p.1, p.2) (list_refused c.in_err-lengths.ensures)
+
 pub returns-in_err-sorts : goal.returns-in_err-sorts
 returns-in_err-sorts c =
-    let p = err_from_is_err_and c.from_residual.result c.from_residual.ensures.1 in
+    let p = err_from_is_err_and c.from_residual-in_err-sorts.result c.from_residual-in_err-sorts.ensures.1 in
     rw (p.1, p.2) (list_refused c.in_err-sorts.ensures)
 
 -- The set has the nodes of the tables.

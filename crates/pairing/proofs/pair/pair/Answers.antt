@@ -17,10 +17,16 @@ use Rattle.pairing.specs.Laws.Calls.{tables_call, pair_call_lem}
 use Rattle.pairing.specs.Laws.Sets.{sound_represents}
 use Rattle.pairing.proofs.pair.pair.Goals as goal
 
+pub returns-in_err-lengths : goal.returns-in_err-lengths
+returns-in_err-lengths c =
+    let x = c.args in
+    let p = err_from_is_err_and c.from_residual.result c.from_residual.ensures.1 in
+    rw (p.1, p.2) (tables_call pair x.a.now x.b.now x.list.now _ c.in_err-lengths.ensures refl (tried _ _ TableB refl refl))
+
 pub returns-in_err-sorts : goal.returns-in_err-sorts
 returns-in_err-sorts c =
     let x = c.args in
-    let p = err_from_is_err_and c.from_residual.result c.from_residual.ensures.1 in
+    let p = err_from_is_err_and c.from_residual-in_err-sorts.result c.from_residual-in_err-sorts.ensures.1 in
     rw (p.1, p.2) (tables_call pair x.a.now x.b.now x.list.now _ c.in_err-sorts.ensures refl (tried _ _ TableB refl refl))
 
 pub new-set-requires : goal.new-set-requires
